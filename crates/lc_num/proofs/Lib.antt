@@ -1,0 +1,5 @@
+pub mod RootLemmas
+pub mod SignedLemmas
+pub mod NewtonLemmas
+pub mod SquareLemmas
+pub mod ScaledLemmas

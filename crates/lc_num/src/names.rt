@@ -1,0 +1,35 @@
+// Names of files and materials.
+ghost use Rattle.std.specs.Prelude.{◌≡◌, IfOk};
+
+use crate::memory::Memory;
+use std::alloc::Global;
+use std::marker::Model;
+
+/// A name, which is UTF-8.
+#[derive(Drop)]
+pub struct Name {
+    held: String,
+}
+
+impl Model for Name {
+    ghost use Rattle.std.specs.Prelude.{List as Items, ℕ, string_bytes};
+
+    ghost Value = { Items ℕ };
+
+    ghost view = { λ n. string_bytes n.held };
+}
+
+impl Name {
+    pub fn from_text(alloc: Global, text: &str) -> Result<Name, Memory>
+        ensures { IfOk result (λ name. name ≡ text.now) }
+    {
+        let held = String::from_str(alloc, text)?;
+        Ok(Name { held })
+    }
+
+    pub fn as_str(&self) -> &str
+        ensures { result.now ≡ self.now }
+    {
+        self.held.as_str()
+    }
+}

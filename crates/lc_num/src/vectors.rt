@@ -1,0 +1,9 @@
+// Vectors of whole numbers.
+
+/// A place or a direction. Places are in units of 1/10000.
+#[derive(Clone, Copy, Debug, PartialEq, Eq)]
+pub struct Vec3 {
+    pub x: i64,
+    pub y: i64,
+    pub z: i64,
+}

@@ -1,5 +1,5 @@
-pub mod RootLemmas
-pub mod SignedLemmas
-pub mod NewtonLemmas
+pub mod Triples
 pub mod SquareLemmas
 pub mod ScaledLemmas
+pub mod CosineLemmas
+pub mod DifferenceLemmas

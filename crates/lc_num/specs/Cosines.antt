@@ -1,7 +1,7 @@
 -- Vectors of a given length, and cosines in 1/65536.
 use Rattle.std.specs.Prelude.{ℕ, ◌==◌, ◌*◌, ◌^◌, ◌⊎◌, if◌then◌else◌, pos, ◌*ℤ◌, unsigned_abs}
 use Rattle.std.specs.Int.RustNames.{int_div, int_lt}
-use Rattle.lc_num.specs.Roots.{isqrt, ratio_root}
+use Rattle.lc_algebra.specs.Roots.{isqrt, ratio_root}
 use Rattle.lc_num.specs.Vectors.{Within, zero_vector, dot, square}
 use Rattle.lc_num.specs.declared.vectors.Vec3.{Vec3}
 

@@ -1,4 +1,4 @@
-pub mod Roots
+pub use Rattle.lc_algebra.specs.Roots
 pub mod Vectors
 pub mod Cosines
 pub mod Channels

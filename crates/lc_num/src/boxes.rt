@@ -2,7 +2,7 @@
 use crate::vectors::Vec3;
 use std::marker::Model;
 
-/// A box by its least and its greatest corner, which are in order on each axis.
+/// A box along the axes, by its least and its greatest corner. On each axis the least is at most the greatest.
 #[derive(Clone, Copy, Debug, PartialEq, Eq)]
 pub struct Span3 {
     pub lo: Vec3,

@@ -1,6 +1,6 @@
 // One number for each of the channels red, green and blue.
 
-/// A radiance, an estimate or a bound.
+/// A radiance, or an estimate or a bound of one: a whole number per channel, before it is scaled down for the eye.
 #[derive(Clone, Copy, Debug, PartialEq, Eq)]
 pub struct Rgb {
     pub r: u128,
@@ -8,7 +8,7 @@ pub struct Rgb {
     pub b: u128,
 }
 
-/// An intensity of light in units of 1/10000.
+/// The intensity of a light per channel, in units of 1/10000.
 #[derive(Clone, Copy, Debug, PartialEq, Eq)]
 pub struct Power {
     pub r: u64,
@@ -16,7 +16,7 @@ pub struct Power {
     pub b: u64,
 }
 
-/// The colour of a surface in units of 1/10000.
+/// The share of light that a surface sends back per channel, in units of 1/10000.
 #[derive(Clone, Copy, Debug, PartialEq, Eq)]
 pub struct Colour {
     pub r: u32,

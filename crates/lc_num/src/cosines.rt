@@ -1,56 +1,71 @@
-// Lengths and cosines of vectors.
-ghost use Rattle.std.specs.Prelude.{◌≡◌, ◌^◌, ◌<◌, ◌≤◌, ◌*ℤ◌, pos, unsigned_abs};
-ghost use Rattle.std.specs.Int.RustNames.{int_div};
-ghost use Rattle.lc_num.specs.Vectors.{Within, square};
-ghost use Rattle.lc_num.specs.Cosines.{CanMeasure, scaled, cos16};
+// Cosines of the angle between two vectors.
+ghost use Rattle.std.specs.Prelude.{◌≡◌, ◌+◌, ◌*◌, ◌^◌, ◌<◌, ◌≤◌};
+ghost use Rattle.lc_num.specs.Roots.{ratio_root};
+ghost use Rattle.lc_num.specs.Cosines.{CanMeasure, cos16};
 
-use crate::products::dot;
-use crate::roots::isqrt;
+use crate::guesses::cosine_guess;
+use crate::products::{short_dot, short_square};
 use crate::vectors::Vec3;
 
-/// The squared length.
-pub fn square(v: Vec3) -> u128
-    requires { Within (2 ^ 60) v }
-    ensures { result ≡ square v }
+/// A number up to `guess` that is not above the root of `top / squares`.
+fn lowered(guess: u64, squares: u128, top: u128) -> u64
+    requires guess { guess ≤ 65536 }
+    requires squares { squares < 2 ^ 86 }
+    ensures low { result * result * squares ≤ top }
+    ensures most { result ≤ 65536 }
 {
-    dot(v, v) as u128
-}
-
-/// `l * a / length`, toward zero.
-fn part(l: u64, a: i64, length: u64) -> i64
-    requires l { l ≤ 2 ^ 28 }
-    requires length { 0 < length }
-    requires a { unsigned_abs a ≤ length }
-    ensures { result ≡ int_div (pos l *ℤ a) (pos length) }
-{
-    let size = (l as u128 * a.unsigned_abs() as u128 / length as u128) as i64;
-    if a < 0 { -size } else { size }
-}
-
-pub fn scaled(v: Vec3, l: u64) -> Vec3
-    requires v { Within (2 ^ 60) v }
-    requires l { l ≤ 2 ^ 28 }
-    ensures { result ≡ scaled v l }
-{
-    let length = isqrt(square(v));
-    if length == 0 {
-        return Vec3 { x: 0, y: 0, z: 0 };
+    let mut root = guess;
+    while (root * root) as u128 * squares > top {
+        root -= 1;
     }
-    Vec3 {
-        x: part(l, v.x, length),
-        y: part(l, v.y, length),
-        z: part(l, v.z, length),
-    }
+    root
 }
 
+/// The root of `top / squares`, from a number that is not above it.
+fn raised(start: u64, squares: u128, top: u128) -> u64
+    requires start { start ≤ 65536 }
+    requires low { start * start * squares ≤ top }
+    requires some { 0 < squares }
+    requires squares { squares < 2 ^ 86 }
+    requires top { top ≤ 65536 * 65536 * squares }
+    ensures value { result ≡ ratio_root squares top }
+    ensures most { result ≤ 65536 }
+{
+    let mut root = start;
+    while ((root + 1) * (root + 1)) as u128 * squares <= top {
+        root += 1;
+    }
+    root
+}
+
+/// The greatest k with `k^2 * squares <= 2^32 * along^2`. It is at most 65536.
+fn cosine(along: u64, squares: u128) -> u32
+    requires along { along < 2 ^ 43 }
+    requires squares { squares < 2 ^ 86 }
+    requires some { 0 < squares }
+    requires schwarz { along * along ≤ squares }
+    ensures value { result ≡ ratio_root squares (2 ^ 32 * (along * along)) }
+    ensures most { result ≤ 65536 }
+{
+    let top = 0x1_0000_0000 * (along as u128 * along as u128);
+    let start = lowered(cosine_guess(along, squares), squares, top);
+    raised(start, squares, top) as u32
+}
+
+/// The cosine of the angle between two vectors in 1/65536, rounded down, and 0 where it is negative or a vector is
+/// zero: the greatest k with `k^2 * (n.n) * (b.b) <= 2^32 * (n.b)^2`. The components of one vector are at most 16384,
+/// and those of the other at most 100,100,000.
 pub fn cos16(n: Vec3, b: Vec3) -> u32
     requires { CanMeasure n b }
-    ensures { result ≡ cos16 n b }
+    ensures value { result ≡ cos16 n b }
+    ensures most { result ≤ 65536 }
 {
-    let along = dot(n, b);
+    let along = short_dot(n, b);
     if along <= 0 {
         return 0;
     }
-    let along = along as u128;
-    isqrt(0x1_0000_0000 * along * along / (square(n) * square(b))) as u32
+    cosine(
+        along as u64,
+        short_square(n) as u128 * short_square(b) as u128,
+    )
 }

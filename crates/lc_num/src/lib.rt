@@ -4,23 +4,31 @@
 mod boxes;
 mod channels;
 mod cosines;
+mod differences;
+mod guesses;
 mod lists;
 mod memory;
 mod names;
 mod products;
 mod roots;
+mod scaling;
 mod steps;
 mod texts;
 mod vectors;
 
 pub use boxes::Span3;
 pub use channels::{Colour, Power, Rgb};
-pub use cosines::{cos16, scaled, square};
+pub use cosines::cos16;
+pub use differences::difference;
 pub use lists::List;
 pub use memory::Memory;
 pub use names::Name;
-pub use products::dot;
+pub use products::{dot, short_square, square};
 pub use roots::isqrt;
+pub use scaling::scaled;
 pub use steps::Steps;
 pub use texts::Text;
 pub use vectors::Vec3;
+
+#[cfg(test)]
+mod tests;

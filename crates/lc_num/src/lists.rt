@@ -1,11 +1,11 @@
 // Lists that grow, seen by contracts as lists.
-ghost use Rattle.std.specs.Prelude.{◌≡◌, [], ◌∷◌, ◌++◌, OnOk, OnErr, length};
+ghost use Rattle.std.specs.Prelude.{◌≡◌, [], ◌∷◌, ◌++◌, ◌↔◌, OnOk, OnErr, IsTrue, length};
 
 use crate::memory::Memory;
 use std::alloc::Global;
 use std::marker::Model;
 
-/// Items in order.
+/// A list that grows at its end.
 #[derive(Drop)]
 pub struct List<T> {
     held: Vec<T>,
@@ -20,6 +20,7 @@ impl<T> Model for List<T> {
 }
 
 impl<T> List<T> {
+    /// The empty list. It takes no memory before the first `push`.
     pub fn new(alloc: Global) -> List<T>
         ensures { result ≡ [] }
     {
@@ -28,7 +29,7 @@ impl<T> List<T> {
         }
     }
 
-    /// On `Memory` the item is dropped.
+    /// Puts an item at the end. On `Memory` the list stays as it was and the item is dropped.
     pub fn push(&mut self, item: T) -> Result<(), Memory>
     where
         T: Drop,
@@ -39,12 +40,21 @@ impl<T> List<T> {
         Ok(())
     }
 
+    /// The number of items.
     pub fn len(&self) -> usize
         ensures { result ≡ length self.now }
     {
         self.held.len()
     }
 
+    /// Whether there is no item.
+    pub fn is_empty(&self) -> bool
+        ensures { IsTrue result ↔ self.now ≡ [] }
+    {
+        self.held.is_empty()
+    }
+
+    /// The items, in order.
     pub fn as_slice(&self) -> &[T]
         ensures { result.now ≡ self.now }
     {

@@ -1,9 +1,23 @@
 // Want of memory.
 use std::alloc::{AllocError, AllocFailed};
+use std::error::Error;
+use std::fmt;
 
-/// There was no memory.
+/// The error of a call that asked for memory and got none.
 #[derive(Clone, Copy, Debug, PartialEq, Eq)]
 pub struct Memory;
+
+impl fmt::Display for Memory {
+    ghost use Rattle.std.specs.Prelude.{Some, codes};
+
+    ghost output = { λ _memory. Some (codes "out of memory") };
+
+    fn fmt<W: fmt::Write>(&self, f: &mut fmt::Formatter<W>) -> fmt::Result {
+        write!(f, "out of memory")
+    }
+}
+
+impl Error for Memory {}
 
 impl From<AllocError> for Memory {
     fn from(_error: AllocError) -> Memory {

@@ -5,7 +5,7 @@ use crate::memory::Memory;
 use std::alloc::Global;
 use std::marker::Model;
 
-/// A name, which is UTF-8.
+/// The name of a file, a material or a texture, in UTF-8. Contracts see its bytes.
 #[derive(Drop)]
 pub struct Name {
     held: String,
@@ -20,6 +20,7 @@ impl Model for Name {
 }
 
 impl Name {
+    /// A copy of the text.
     pub fn from_text(alloc: Global, text: &str) -> Result<Name, Memory>
         ensures { IfOk result (λ name. name ≡ text.now) }
     {
@@ -27,6 +28,7 @@ impl Name {
         Ok(Name { held })
     }
 
+    /// The text of the name.
     pub fn as_str(&self) -> &str
         ensures { result.now ≡ self.now }
     {

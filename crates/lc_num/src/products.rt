@@ -1,13 +1,39 @@
 // Products of vectors.
 ghost use Rattle.std.specs.Prelude.{◌≡◌, ◌^◌};
-ghost use Rattle.lc_num.specs.Vectors.{Within, dot};
+ghost use Rattle.lc_num.specs.Vectors.{Within, dot, square};
 
 use crate::vectors::Vec3;
 
+/// The dot product `a.b`, in the product of the two vectors' units.
 pub fn dot(a: Vec3, b: Vec3) -> i128
     requires a { Within (2 ^ 60) a }
     requires b { Within (2 ^ 60) b }
     ensures { result ≡ dot a b }
 {
     a.x as i128 * b.x as i128 + a.y as i128 * b.y as i128 + a.z as i128 * b.z as i128
+}
+
+/// The dot product of vectors whose products fit 64 bits.
+pub fn short_dot(a: Vec3, b: Vec3) -> i64
+    requires a { Within (2 ^ 30) a }
+    requires b { Within (2 ^ 30) b }
+    ensures { result ≡ dot a b }
+{
+    a.x * b.x + a.y * b.y + a.z * b.z
+}
+
+/// The squared length `v.v`, in the square of the vector's unit.
+pub fn square(v: Vec3) -> u128
+    requires { Within (2 ^ 60) v }
+    ensures { result ≡ square v }
+{
+    dot(v, v) as u128
+}
+
+/// The squared length of a vector whose products fit 64 bits.
+pub fn short_square(v: Vec3) -> u64
+    requires { Within (2 ^ 30) v }
+    ensures { result ≡ square v }
+{
+    short_dot(v, v) as u64
 }

@@ -1,6 +1,6 @@
 // Vectors of whole numbers.
 
-/// A place or a direction. Places are in units of 1/10000.
+/// A place or a direction. A place is in units of 1/10000; a direction has any length.
 #[derive(Clone, Copy, Debug, PartialEq, Eq)]
 pub struct Vec3 {
     pub x: i64,

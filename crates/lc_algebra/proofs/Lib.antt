@@ -1,0 +1,10 @@
+pub mod Ring
+pub mod Poly
+pub mod Order
+pub mod Absolute
+pub mod Within
+pub mod Machine
+pub mod Greatest
+pub mod Roots
+pub mod Newton
+pub mod SixNumbers

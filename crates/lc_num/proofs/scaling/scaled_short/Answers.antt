@@ -1,0 +1,36 @@
+use Rattle.std.proofs.Common.{◌≡◌, ◌<◌, rules, FitsSigned, arith, ◌∙◌, ap}
+use Rattle.std.specs.Int.{w64}
+use Rattle.std.proofs.lemmas.Int.{to_z-of_z}
+use Rattle.lc_algebra.specs.Roots.{isqrt}
+use Rattle.lc_num.specs.Vectors.{square}
+use Rattle.lc_num.proofs.ScaledLemmas.{scaled_zero, scaled_parts, below_length, part_read}
+use Rattle.lc_num.proofs.scaling.scaled_short.Goals as goal
+
+pub returns-then-length-eq0 : goal.returns-then-length-eq0
+returns-then-length-eq0 c =
+    scaled_zero c.args.v c.args.l (let e : c.isqrt_of_word-length.result ≡ isqrt (square c.args.v) = c.isqrt_of_word-length.ensures.value ∙ ap isqrt c.short_square.ensures in cc)
+
+pub short_part-requires-clause-a : goal.short_part-requires-clause-a
+short_part-requires-clause-a c =
+    let f : FitsSigned w64 c.args.v.x = search rules in
+    rw (to_z-of_z w64 _ f, c.isqrt_of_word-length.ensures.value, c.short_square.ensures) (below_length c.args.v).x
+
+pub short_part-requires-2-clause-a : goal.short_part-requires-2-clause-a
+short_part-requires-2-clause-a c =
+    let f : FitsSigned w64 c.args.v.y = search rules in
+    rw (to_z-of_z w64 _ f, c.isqrt_of_word-length.ensures.value, c.short_square.ensures) (below_length c.args.v).y
+
+pub short_part-requires-3-clause-a : goal.short_part-requires-3-clause-a
+short_part-requires-3-clause-a c =
+    let f : FitsSigned w64 c.args.v.z = search rules in
+    rw (to_z-of_z w64 _ f, c.isqrt_of_word-length.ensures.value, c.short_square.ensures) (below_length c.args.v).z
+
+pub returns : goal.returns
+returns c =
+    let length : c.isqrt_of_word-length.result ≡ isqrt (square c.args.v) = c.isqrt_of_word-length.ensures.value ∙ ap isqrt c.short_square.ensures in
+    let some : 0 < isqrt (square c.args.v) = omega arith in
+    let x = part_read c.args.l c.isqrt_of_word-length.result (isqrt (square c.args.v)) c.args.v.x c.short_part.result (search rules) (search rules) length c.short_part.ensures in
+    let y = part_read c.args.l c.isqrt_of_word-length.result (isqrt (square c.args.v)) c.args.v.y c.short_part-2.result (search rules) (search rules) length c.short_part-2.ensures in
+    let z = part_read c.args.l c.isqrt_of_word-length.result (isqrt (square c.args.v)) c.args.v.z c.short_part-3.result (search rules) (search rules) length c.short_part-3.ensures in
+    let whole = scaled_parts c.args.v c.args.l some in
+    cc

@@ -1,0 +1,173 @@
+// Values worked out by hand, and each call that asks for memory on its happy path.
+ghost use Rattle.std.specs.Prelude.{◌≡◌, ◌<◌};
+
+use super::*;
+use std::marker::Brand;
+use std::sync::ledger::{Blank, Ledger};
+use std::test::*;
+
+#[test]
+fn roots(rt: HostRuntime) {
+    assert_eq!(rt; isqrt(0), 0);
+    assert_eq!(rt; isqrt(1), 1);
+    assert_eq!(rt; isqrt(3), 1);
+    assert_eq!(rt; isqrt(4), 2);
+    assert_eq!(rt; isqrt(8_589_934_591), 92681);
+    assert_eq!(rt; isqrt(18_446_744_073_709_551_615), 4_294_967_295);
+    assert_eq!(rt; isqrt(18_446_744_073_709_551_616), 4_294_967_296);
+    assert_eq!(rt;
+        isqrt(1_000_000_000_000_000_000_000_000_000_000),
+        1_000_000_000_000_000
+    );
+    assert_eq!(rt;
+        isqrt(340_282_366_920_938_463_463_374_607_431_768_211_455),
+        18_446_744_073_709_551_615
+    );
+}
+
+#[test]
+fn products(rt: HostRuntime) {
+    let a = Vec3 { x: 1, y: -2, z: 3 };
+    let b = Vec3 { x: 4, y: 5, z: -6 };
+    assert_eq!(rt; dot(a, b), -24);
+    assert_eq!(rt; square(b), 77);
+}
+
+#[test]
+fn lengths(rt: HostRuntime) {
+    // The root of 3 is 1 as a whole number, so each component is 16384 / 1.
+    let diagonal = Vec3 { x: 1, y: 1, z: 1 };
+    assert_eq!(rt;
+        scaled(diagonal, 16384),
+        Vec3 {
+            x: 16384,
+            y: 16384,
+            z: 16384
+        }
+    );
+    // -10 / 3 and 20 / 3.
+    let short = Vec3 { x: -1, y: 2, z: 2 };
+    assert_eq!(rt; scaled(short, 10), Vec3 { x: -3, y: 6, z: 6 });
+    let none = Vec3 { x: 0, y: 0, z: 0 };
+    assert_eq!(rt; scaled(none, 16384), none);
+    // Just beyond 64 bits, and at the limits.
+    let long = Vec3 {
+        x: 1_073_741_825,
+        y: -1,
+        z: 0,
+    };
+    assert_eq!(rt;
+        scaled(long, 268_435_456),
+        Vec3 {
+            x: 268_435_456,
+            y: 0,
+            z: 0
+        }
+    );
+    let far = 1_152_921_504_606_846_976;
+    let longest = Vec3 {
+        x: far,
+        y: far,
+        z: -far,
+    };
+    assert_eq!(rt;
+        scaled(longest, 268_435_456),
+        Vec3 {
+            x: 154_981_282,
+            y: 154_981_282,
+            z: -154_981_282
+        }
+    );
+}
+
+#[test]
+fn cosines(rt: HostRuntime) {
+    let up = Vec3 {
+        x: 0,
+        y: 0,
+        z: 16384,
+    };
+    let half_right = Vec3 {
+        x: 10000,
+        y: 0,
+        z: 10000,
+    };
+    let across = Vec3 {
+        x: 100_100_000,
+        y: 0,
+        z: 0,
+    };
+    let down = Vec3 { x: 1, y: 0, z: -1 };
+    let far = Vec3 {
+        x: 100_100_000,
+        y: 100_100_000,
+        z: 100_100_000,
+    };
+    let near = Vec3 {
+        x: 16384,
+        y: 16384,
+        z: 16384,
+    };
+    let steep = Vec3 {
+        x: 5,
+        y: 16384,
+        z: 0,
+    };
+    assert_eq!(rt; cos16(up, half_right), 46340);
+    assert_eq!(rt; cos16(up, up), 65536);
+    assert_eq!(rt; cos16(up, across), 0);
+    assert_eq!(rt; cos16(up, down), 0);
+    assert_eq!(rt; cos16(far, near), 65536);
+    assert_eq!(rt; cos16(across, steep), 19);
+}
+
+#[test]
+fn lists(rt: HostRuntime) {
+    let mut list = List::new(rt.alloc());
+    assert!(rt; list.is_empty());
+    assert_eq!(rt; list.push(7), Ok(()));
+    assert_eq!(rt; list.push(8), Ok(()));
+    assert!(rt; !list.is_empty());
+    assert_eq!(rt; list.len(), 2);
+    assert_eq!(rt; list.as_slice(), [7, 8].as_slice());
+}
+
+#[test]
+fn texts(rt: HostRuntime) {
+    let mut text = Text::new(rt.alloc());
+    assert_eq!(rt; text.append(b"light"), Ok(()));
+    assert_eq!(rt; text.append(b"cuts"), Ok(()));
+    assert_eq!(rt; text.len(), 9);
+    assert_eq!(rt; text.as_slice(), b"lightcuts".as_slice());
+}
+
+#[test]
+fn names(rt: HostRuntime) {
+    match Name::from_text(rt.alloc(), "room.obj") {
+        Ok(name) => assert_eq!(rt; name.as_str(), "room.obj"),
+        Err(error) => assert_eq!(rt; Err(error), Ok(())),
+    }
+}
+
+#[test]
+fn memory(rt: HostRuntime) {
+    match Memory.to_string(rt.alloc()) {
+        Ok(text) => assert_eq!(rt; text.as_str(), "out of memory"),
+        Err(error) => assert_eq!(rt; Err(Memory::from(error)), Ok(())),
+    }
+}
+
+fn two_steps<L: Ledger>(blank: Blank)
+    requires name { blank.name ≡ L.name }
+    requires parts { blank.parts ≡ L.parts }
+    requires some { 0 < L.parts }
+{
+    let mut steps = Steps::<L>::start(blank);
+    steps.tick();
+    steps.tick();
+}
+
+#[test]
+fn steps() {
+    two_steps::<Brand>(Blank::new(1));
+}

@@ -1,0 +1,30 @@
+-- What the desk of the system tells: which slots were begun, and its counts, but no contents.
+use Rattle.std.specs.Prelude.{Bool, false, None}
+use Rattle.lc_desk.specs.Desk.{DeskState, SlotState}
+use Rattle.lc_desk.specs.declared.tally.Tally.{Tally}
+
+abbrev pub untold : Bool → SlotState
+untold begun = record { out = None; named = None; begun = begun }
+
+abbrev pub tally_state : Tally → DeskState
+tally_state t = record {
+  held = None;
+  slots = record { picture = untold t.picture.begun; bounds = untold t.bounds.begun; report = untold t.report.begun; note = untold t.note.begun };
+  faults = record { reads = t.reads; picture = t.picture.faults; bounds = t.bounds.faults; report = t.report.faults; note = t.note.faults };
+  absents = t.absents;
+  longs = t.longs;
+  shorts = t.shorts;
+  steady = false;
+}
+
+-- no slot begun, and every count 0
+abbrev pub untold_state : DeskState
+untold_state = record {
+  held = None;
+  slots = record { picture = untold false; bounds = untold false; report = untold false; note = untold false };
+  faults = record { reads = 0; picture = 0; bounds = 0; report = 0; note = 0 };
+  absents = 0;
+  longs = 0;
+  shorts = 0;
+  steady = false;
+}

@@ -1,0 +1,6 @@
+pub mod Causes
+pub mod Desk
+pub mod Effects
+pub mod Host
+pub mod Memory
+pub mod Words

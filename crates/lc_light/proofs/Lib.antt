@@ -1,0 +1,6 @@
+pub mod DigitLemmas
+pub mod SpellingLemmas
+pub mod FieldLemmas
+pub mod LineLemmas
+pub mod LightLemmas
+pub mod ReadLemmas

@@ -1,0 +1,12 @@
+-- The numbers of the kinds of fault.
+use Rattle.std.specs.Prelude.{ℕ}
+use Rattle.lc_light.specs.declared.kind.Kind.{Kind}
+use Rattle.lc_light.specs.declared.kind.Kind.TheVariants as kind
+
+abbrev pub kind_number : Kind → ℕ
+kind_number kind.Keyword = 1
+kind_number kind.Number = 2
+kind_number kind.FieldCount = 3
+kind_number kind.Range = 4
+kind_number kind.Negative = 5
+kind_number kind.TooMany = 9

@@ -1,0 +1,11 @@
+pub mod Lights
+pub mod Numbers
+pub mod Spelling
+pub mod Lines
+pub mod Fields
+pub mod Kinds
+pub mod LightLine
+pub mod LightFile
+pub use Rattle.lc_num.specs.Vectors
+pub use Rattle.lc_num.specs.Channels
+pub use Rattle.lc_num.specs.Faults

@@ -1,0 +1,49 @@
+-- The lights of a text, and its first fault.
+use Rattle.std.specs.Prelude.{◌≡◌, ℕ, Bool, nat_lt, List, [], ◌∷◌, ◌++◌, length, filter, map, Option, Some, None}
+use Rattle.lc_num.specs.Faults.{Fault}
+use Rattle.lc_light.specs.Lines.{Line, lines}
+use Rattle.lc_light.specs.Fields.{fields}
+use Rattle.lc_light.specs.Kinds.{kind_number}
+use Rattle.lc_light.specs.LightLine.{kind_of, light}
+use Rattle.lc_light.specs.declared.kind.Kind.{Kind}
+use Rattle.lc_light.specs.declared.lights.Omni.{Omni}
+use Rattle.lc_light.specs.declared.lights.Lights.{Lights}
+use Rattle.lc_light.specs.declared.stop.LightStop.{LightStop}
+use Rattle.lc_light.specs.declared.stop.LightStop.TheVariants as stop
+
+-- a line with a field; the others are passed over
+abbrev pub is_spoken : Line → Bool
+is_spoken l = nat_lt 0 (length (fields l.bytes))
+
+abbrev pub spoken : List ℕ → List Line
+spoken text = filter is_spoken (lines text)
+
+-- the lights of lines without a fault
+abbrev pub omni_lights : List Line → List Omni
+omni_lights ls = map (λ l. light (fields l.bytes)) ls
+
+-- a line is judged by itself and the list of lines before it
+abbrev pub fault_of : List Line → Line → Option Kind
+fault_of before l = kind_of (length (omni_lights before)) (fields l.bytes)
+
+abbrev pub fault_then : Option Kind → ℕ → Option Fault → Option Fault
+fault_then (Some kind) n later = Some (record { line = n; kind = kind_number kind })
+fault_then None n later = later
+
+-- the fault of the first faulty line after those before
+unfoldable pub first_fault : List Line → List Line → Option Fault
+first_fault before [] = None
+first_fault before (l ∷ later) = fault_then (fault_of before l) l.number (first_fault (before ++ l ∷ []) later)
+
+-- the fault of the first faulty line of a text
+unfoldable pub fault_in : List ℕ → Option Fault
+fault_in text = first_fault [] (spoken text)
+
+-- the lights of a text without a fault
+unfoldable pub lights : List ℕ → ℕ → Lights
+lights text seed = record { omni = omni_lights (spoken text); oriented = []; sun = [] }
+
+-- a fault is the first one; want of memory is free
+abbrev pub IsStop : LightStop → Option Fault → Type 0
+IsStop stop.Memory fault = Unit {0}
+IsStop (stop.Fault line kind) fault = fault ≡ Some (record { line = line; kind = kind })

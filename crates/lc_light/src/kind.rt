@@ -1,0 +1,28 @@
+// The kinds of fault of a line.
+ghost use Rattle.std.specs.Prelude.{◌≡◌};
+ghost use Rattle.lc_light.specs.Kinds.{kind_number};
+
+/// The test that a line fails.
+#[derive(Clone, Copy, Debug, PartialEq, Eq)]
+pub enum Kind {
+    /// The keyword is not known.
+    Keyword = 1,
+    /// A field is no number.
+    Number = 2,
+    /// The line has another number of fields than its keyword wants.
+    FieldCount = 3,
+    /// A number is out of its range.
+    Range = 4,
+    /// An intensity is below 0.
+    Negative = 5,
+    /// There are more lights than a file may have.
+    TooMany = 9,
+}
+
+impl Kind {
+    pub fn number(self) -> u8
+        ensures { result ≡ kind_number self }
+    {
+        self as u8
+    }
+}

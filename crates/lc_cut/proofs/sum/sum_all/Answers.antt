@@ -1,0 +1,23 @@
+use Rattle.std.proofs.Common.{◌≡◌, ◌+◌, ◌*◌, ◌^◌, ◌<◌, ◌≤◌, length, take, get_or, arith, refl, sym, ap, ◌∙◌, subst, rules}
+use Rattle.std.proofs.lemmas.List.{take_all}
+use Rattle.lc_num.specs.Channels.{plus, IsRgbWithin}
+use Rattle.lc_cut.specs.Contribution.{plain}
+use Rattle.lc_cut.proofs.SumLemmas.{plain_more, plus_within, wider}
+use Rattle.lc_cut.proofs.sum.sum_all.Goals as goal
+
+pub loop-light-init : goal.loop-light-init
+loop-light-init g c = record { est = refl; small = record { r = omega arith; g = omega arith; b = omega arith }; steps = omega arith }
+
+pub plus-est-requires-clause-a : goal.plus-est-requires-clause-a
+plus-est-requires-clause-a g c = wider (65536 * 10 ^ 25 * c.loop-light.light-index) (2 ^ 126) c.loop-light.est (let few : c.loop-light.light-index < 1000 = search rules in omega arith) c.loop-light.invariant.small
+
+pub loop-light-preserved : goal.loop-light-preserved
+loop-light-preserved g c =
+    let more = plain_more c.args.spot.now c.as_slice-light-items.result.now c.loop-light.light-index _ c.loop-light-test.true in
+    let e = c.loop-light.invariant.est in
+    let this = c.contribution.ensures.value in
+    record {
+      est = c.plus-est.ensures ∙ (let a = ap (λ x. plus x c.contribution.result) e in let b = ap (λ x. plus (plain c.args.spot.now (take c.loop-light.light-index c.as_slice-light-items.result.now)) x) this in a ∙ b ∙ sym more);
+      small = rw c.plus-est.ensures (wider _ _ _ (omega arith) (plus_within (65536 * 10 ^ 25 * c.loop-light.light-index) (65536 * 10 ^ 25) c.loop-light.est c.contribution.result c.loop-light.invariant.small c.contribution.ensures.small));
+      steps = omega (arith, c.loop-light.invariant.steps);
+    }

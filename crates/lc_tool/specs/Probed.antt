@@ -1,0 +1,29 @@
+-- What `probe` has recorded where it is done.
+use Rattle.std.specs.Prelude.{◌≡◌, ◌+◌, ℕ, List, length, Option, Some, None}
+use Rattle.lc_num.specs.Channels.{black}
+use Rattle.lc_num.specs.declared.vectors.Vec3.{Vec3}
+use Rattle.lc_desk.specs.Desk.{DeskState, Files, appended}
+use Rattle.lc_light.specs.LightFile.{fault_in, lights}
+use Rattle.lc_cut.specs.Contribution.{plain}
+use Rattle.lc_cut.specs.declared.answer.Answer.{Answer}
+use Rattle.lc_tool.specs.Lines.{record_line}
+use Rattle.lc_tool.specs.Outcome.{probe_spot}
+use Rattle.lc_tool.specs.Words.{Command, probe}
+
+-- Report has gained one line, and each other slot is as it was. The line's size and evaluations are the number of
+-- the file's lights, its estimate is the sum of their contributions, its bounds are 0. The counter rose by the evaluations
+pub record ProbeRecorded (name : List ℕ) (place direction : Vec3) (files : Files) (before now : DeskState) (steps_before steps_now : ℕ) : Type 0 where
+  pub text : List ℕ
+  pub read : files name ≡ Some text
+  pub right : fault_in text ≡ None
+  pub answer : Answer
+  pub recorded : now.slots ≡ record before.slots { report = appended (record_line answer) before.slots.report }
+  pub size : answer.size ≡ length (lights text 0).omni
+  pub evals : answer.evals ≡ length (lights text 0).omni
+  pub est : answer.est ≡ plain (probe_spot place direction) (lights text 0).omni
+  pub bound : answer.bound ≡ black
+  pub counted : steps_now ≡ steps_before + answer.evals
+
+abbrev pub Recorded : Option Command → Files → DeskState → DeskState → ℕ → ℕ → Type 0
+Recorded None files before now steps_before steps_now = Unit {0}
+Recorded (Some (probe name place direction)) files before now steps_before steps_now = ProbeRecorded name place direction files before now steps_before steps_now

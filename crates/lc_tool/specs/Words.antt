@@ -1,0 +1,43 @@
+-- The words of the command line, as a command.
+use Rattle.std.specs.Prelude.{ℕ, ◌+◌, ◌==◌, ◌&&◌, Bool, List, [], length, slice_index_or, Option, Some, None, ℤ, unsigned_abs, nat_lt, if◌then◌else◌, codes}
+use Rattle.std.specs.Str.{bytes_eq}
+use Rattle.lc_num.specs.declared.vectors.Vec3.{Vec3}
+use Rattle.lc_light.specs.Numbers.{short_units}
+
+pub data Command : Type 0 where
+  -- the name of a light file, a place, and the direction of a normal
+  probe : List ℕ → Vec3 → Vec3 → Command
+
+abbrev pub in_range : Option ℤ → Option ℤ
+in_range None = None
+in_range (Some z) = if nat_lt 50_000_000 (unsigned_abs z) then None else Some z
+
+-- a number from -5000 to 5000, in units of 1/10000
+abbrev pub coordinate : List ℕ → Option ℤ
+coordinate word = in_range (short_units word)
+
+abbrev pub vector_of : Option ℤ → Option ℤ → Option ℤ → Option Vec3
+vector_of (Some x) (Some y) (Some z) = Some (record { x = x; y = y; z = z })
+vector_of x y z = None
+
+abbrev pub probe_of : List ℕ → Option Vec3 → Option Vec3 → Option Command
+probe_of name (Some place) (Some direction) = Some (probe name place direction)
+probe_of name place direction = None
+
+abbrev pub word_at : List (List ℕ) → ℕ → List ℕ
+word_at words k = slice_index_or words k []
+
+-- three words as a vector
+abbrev pub vector_at : List (List ℕ) → ℕ → Option Vec3
+vector_at words k = vector_of (coordinate (word_at words k)) (coordinate (word_at words (k + 1))) (coordinate (word_at words (k + 2)))
+
+-- so many words, and this one first
+abbrev pub begins : List (List ℕ) → List ℕ → ℕ → Bool
+begins words first count = length words == count && bytes_eq (word_at words 0) first
+
+-- the command; nothing where the words are none
+abbrev pub command_of : List (List ℕ) → Option Command
+command_of words =
+    if begins words (codes "probe") 8
+    then probe_of (word_at words 1) (vector_at words 2) (vector_at words 5)
+    else None

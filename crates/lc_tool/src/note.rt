@@ -1,0 +1,82 @@
+// Lines on Note, put in two pieces without taking memory.
+ghost use Rattle.std.specs.Prelude.{◌≡◌, ◌++◌};
+ghost use Rattle.lc_tool.specs.Lines.{memory_line, usage_line, absent_line, read_fault_line, long_line, fault_line, slot_word, write_fault_line};
+ghost use Rattle.lc_tool.specs.Noted.{Noted};
+
+use crate::fixed::append;
+use arrayvec::ArrayString;
+use itoa::Buffer;
+use lc_desk::{Desk, Slot};
+
+/// Puts the two pieces of a line. After a piece that is refused nothing more is put.
+fn note<D: Desk>(desk: &mut D, first: &str, second: &str)
+    ensures { Noted (first.now ++ second.now) (D.state desk.old) (D.state desk.new) }
+{
+    if desk.put(Slot::Note, first.as_bytes()).is_ok() {
+        let _ = desk.put(Slot::Note, second.as_bytes());
+    }
+}
+
+pub fn note_memory<D: Desk>(desk: &mut D)
+    ensures { Noted memory_line (D.state desk.old) (D.state desk.new) }
+{
+    note(desk, "out", " of memory\n");
+}
+
+pub fn note_usage<D: Desk>(desk: &mut D)
+    ensures { Noted usage_line (D.state desk.old) (D.state desk.new) }
+{
+    note(
+        desk,
+        "usage:",
+        " lightcuts probe LIGHTS X Y Z NX NY NZ | render JOB | plain JOB | audit JOB STEP | make N\n",
+    );
+}
+
+pub fn note_absent<D: Desk>(desk: &mut D, name: &str)
+    ensures { Noted (absent_line name.now) (D.state desk.old) (D.state desk.new) }
+{
+    note(desk, name, ": absent\n");
+}
+
+pub fn note_read_fault<D: Desk>(desk: &mut D, name: &str)
+    ensures { Noted (read_fault_line name.now) (D.state desk.old) (D.state desk.new) }
+{
+    note(desk, name, ": read fault\n");
+}
+
+pub fn note_long<D: Desk>(desk: &mut D, name: &str)
+    ensures { Noted (long_line name.now) (D.state desk.old) (D.state desk.new) }
+{
+    note(desk, name, ": longer than 134217728 bytes\n");
+}
+
+pub fn note_fault<D: Desk>(desk: &mut D, name: &str, line: u32, kind: u8)
+    ensures { Noted (fault_line name.now line kind) (D.state desk.old) (D.state desk.new) }
+{
+    let mut digits = Buffer::new();
+    let mut rest = ArrayString::<128>::new();
+    append(&mut rest, ": line ");
+    append(&mut rest, digits.format(line));
+    append(&mut rest, ": kind ");
+    append(&mut rest, digits.format(kind));
+    append(&mut rest, "\n");
+    note(desk, name, rest.as_str());
+}
+
+fn word(slot: Slot) -> &'static str
+    ensures { result.now ≡ slot_word slot }
+{
+    match slot {
+        Slot::Picture => "picture:",
+        Slot::Bounds => "bounds:",
+        Slot::Report => "report:",
+        Slot::Note => "note:",
+    }
+}
+
+pub fn note_write_fault<D: Desk>(desk: &mut D, slot: Slot)
+    ensures { Noted (write_fault_line slot) (D.state desk.old) (D.state desk.new) }
+{
+    note(desk, word(slot), " write fault\n");
+}

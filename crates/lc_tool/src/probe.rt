@@ -1,0 +1,94 @@
+// The command `probe`.
+ghost use Rattle.std.specs.Prelude.{◌≡◌, ◌+◌, ◌≤◌, length, IfSome, IfOk, Ok};
+ghost use Rattle.lc_num.specs.Vectors.{Within};
+ghost use Rattle.lc_light.specs.Lights.{AreLights};
+ghost use Rattle.lc_cut.specs.Spot.{IsSpot, IsMatte};
+ghost use Rattle.lc_tool.specs.Course.{at_once};
+ghost use Rattle.lc_tool.specs.Outcome.{probe_spot, probe_answer, probe_course, report_of, IsReportOnly};
+ghost use Rattle.lc_tool.specs.Ends.{Ends, Counts};
+
+use crate::read::read_light_file;
+use crate::record_line::record_line;
+use crate::status::Status;
+use crate::write::{put_report, settle};
+use lc_cut::{Answer, Spot, sum_all};
+use lc_desk::Desk;
+use lc_light::Lights;
+use lc_num::{Colour, Steps, Vec3, scaled};
+use std::alloc::Global;
+use std::sync::ledger::Ledger;
+
+const WHITE: Colour = Colour {
+    r: 10_000,
+    g: 10_000,
+    b: 10_000,
+};
+
+const BLACK: Colour = Colour { r: 0, g: 0, b: 0 };
+
+/// A matte white spot at the place, with a normal in the direction.
+fn spot_at(place: Vec3, direction: Vec3) -> Spot
+    requires place { Within 50_000_000 place }
+    requires direction { Within 50_000_000 direction }
+    ensures value { result ≡ probe_spot place direction }
+    ensures valid { IsSpot result }
+    ensures matte { IsMatte result }
+{
+    Spot {
+        x: place,
+        n: scaled(direction, 16_384),
+        r: Vec3 { x: 0, y: 0, z: 0 },
+        kd: WHITE,
+        ks: BLACK,
+        ns: 0,
+    }
+}
+
+/// The light of all lights at a spot.
+fn answer_at<L: Ledger>(
+    place: Vec3,
+    direction: Vec3,
+    lights: &Lights,
+    steps: &mut Steps<L>,
+) -> Answer
+    requires place { Within 50_000_000 place }
+    requires direction { Within 50_000_000 direction }
+    requires lights { AreLights lights.now }
+    ensures value { result ≡ probe_answer place direction lights.now }
+    ensures steps { steps.new ≡ steps.old + length lights.now.omni }
+{
+    let spot = spot_at(place, direction);
+    sum_all(&lights.omni, &spot, steps)
+}
+
+/// Puts the record line of an answer on Report.
+fn report<D: Desk>(answer: &Answer, desk: &mut D) -> Status
+    ensures { Ends result IsReportOnly (D.state desk.old).held (λ files. at_once (Ok (report_of answer.now))) (D.state desk.old) (D.state desk.new) }
+{
+    let line = record_line(answer);
+    let written = put_report(desk, line.as_str().as_bytes());
+    settle(desk, written)
+}
+
+/// Answers the light of a light file at a place, for a normal in a direction.
+pub fn probe<D: Desk, L: Ledger>(
+    alloc: Global,
+    name: &str,
+    place: Vec3,
+    direction: Vec3,
+    desk: &mut D,
+    steps: &mut Steps<L>,
+) -> Status
+    requires place { Within 50_000_000 place }
+    requires direction { Within 50_000_000 direction }
+    ensures ends { Ends result IsReportOnly (D.state desk.old).held (probe_course name.now place direction) (D.state desk.old) (D.state desk.new) }
+    ensures counted { Counts result (D.state desk.old).held (probe_course name.now place direction) steps.old steps.new }
+{
+    match read_light_file(alloc, name, 0, desk) {
+        Ok(lights) => {
+            let answer = answer_at(place, direction, &lights, steps);
+            report(&answer, desk)
+        }
+        Err(stop) => Status::Stopped(stop),
+    }
+}

@@ -1,0 +1,99 @@
+// How a run ends.
+ghost use Rattle.std.specs.Prelude.{◌≡◌};
+
+use lc_desk::Slot;
+
+/// A text that can be faulty.
+#[derive(Clone, Copy, Debug, PartialEq, Eq)]
+pub enum Source {
+    Job,
+    Scene,
+    Library,
+    Lights,
+}
+
+/// Why a run stops before anything is written.
+#[derive(Clone, Copy, Debug, PartialEq, Eq)]
+pub enum Stop {
+    Memory,
+    Faulty(Source),
+    Absent,
+    ReadFault,
+    Long,
+}
+
+/// Why a run breaks off while it writes.
+#[derive(Clone, Copy, Debug, PartialEq, Eq)]
+pub enum WriteStop {
+    Memory,
+    Failed(Slot),
+}
+
+/// How a run ends.
+#[derive(Clone, Copy, Debug, PartialEq, Eq)]
+pub enum Status {
+    Done,
+    Usage,
+    Stopped(Stop),
+    Unwritten(WriteStop),
+}
+
+impl Source {
+    ghost use Rattle.lc_tool.specs.Status.{source_code};
+
+    fn code(self) -> u8
+        ensures { result ≡ source_code self }
+    {
+        match self {
+            Source::Job => 3,
+            Source::Scene => 4,
+            Source::Library => 5,
+            Source::Lights => 6,
+        }
+    }
+}
+
+impl Stop {
+    ghost use Rattle.lc_tool.specs.Status.{stop_code};
+
+    fn code(self) -> u8
+        ensures { result ≡ stop_code self }
+    {
+        match self {
+            Stop::Memory => 1,
+            Stop::Faulty(text) => text.code(),
+            Stop::Absent => 7,
+            Stop::ReadFault => 8,
+            Stop::Long => 10,
+        }
+    }
+}
+
+impl WriteStop {
+    ghost use Rattle.lc_tool.specs.Status.{write_code};
+
+    fn code(self) -> u8
+        ensures { result ≡ write_code self }
+    {
+        match self {
+            WriteStop::Memory => 1,
+            WriteStop::Failed(_) => 9,
+        }
+    }
+}
+
+impl Status {
+    ghost use Rattle.lc_tool.specs.Status.{code};
+
+    /// The exit status.
+    pub fn code(self) -> u8
+        ensures { result ≡ code self }
+    {
+        match self {
+            Status::Done => 0,
+            Status::Usage => 2,
+            Status::Stopped(stop) => stop.code(),
+            Status::Unwritten(stop) => stop.code(),
+        }
+    }
+}

@@ -1,0 +1,75 @@
+// The words of the command line.
+ghost use Rattle.std.specs.Prelude.{◌≡◌, ◌≤◌, map, option_map, IfSome, unsigned_abs};
+ghost use Rattle.lc_tool.specs.Words.{command_of, probe_of, coordinate, vector_of};
+ghost use Rattle.lc_num.specs.Vectors.{Within};
+ghost use Rattle.lc_tool.specs.Meant.{meant, IsInRange};
+
+use lc_light::short_number;
+use lc_num::Vec3;
+
+/// A command.
+#[derive(Clone, Copy)]
+pub enum Command<'a> {
+    /// The light of a light file at a place, for a normal in a direction.
+    Probe {
+        lights: &'a str,
+        place: Vec3,
+        direction: Vec3,
+    },
+}
+
+const MOST: u64 = 50_000_000;
+
+fn coordinate(word: &str) -> Option<i64>
+    ensures value { result ≡ coordinate word.now }
+    ensures within { IfSome result (λ z. unsigned_abs z ≤ 50_000_000) }
+{
+    let number = short_number(word.as_bytes())?;
+    if number.unsigned_abs() > MOST {
+        None
+    } else {
+        Some(number)
+    }
+}
+
+fn vector(x: &str, y: &str, z: &str) -> Option<Vec3>
+    ensures value { result ≡ vector_of (coordinate x.now) (coordinate y.now) (coordinate z.now) }
+    ensures within { IfSome result (Within 50_000_000) }
+{
+    let x = coordinate(x)?;
+    let y = coordinate(y)?;
+    let z = coordinate(z)?;
+    Some(Vec3 { x, y, z })
+}
+
+/// The command `probe`, where its two vectors are in range.
+fn probe_command<'a>(
+    lights: &'a str,
+    place: Option<Vec3>,
+    direction: Option<Vec3>,
+) -> Option<Command<'a>>
+    requires place { IfSome place (Within 50_000_000) }
+    requires direction { IfSome direction (Within 50_000_000) }
+    ensures value { option_map meant result ≡ probe_of lights.now place direction }
+    ensures range { IfSome result IsInRange }
+{
+    Some(Command::Probe {
+        lights,
+        place: place?,
+        direction: direction?,
+    })
+}
+
+/// The command that the words are.
+pub fn read_words<'a>(words: &[&'a str]) -> Option<Command<'a>>
+    ensures value { option_map meant result ≡ command_of (map (λ word. word.now) words.now) }
+    ensures range { IfSome result IsInRange }
+{
+    let [word, lights, x, y, z, nx, ny, nz] = words else {
+        return None;
+    };
+    if *word != "probe" {
+        return None;
+    }
+    probe_command(lights, vector(x, y, z), vector(nx, ny, nz))
+}

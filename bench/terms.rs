@@ -26,16 +26,16 @@ static RECIPROCAL_ROOTS: [u16; 192] = [
     33393, 33325, 33258, 33192, 33125, 33059, 32994, 32929, 32864, 32800,
 ];
 
-const ONE_AND_A_HALF: u64 = 3 << 30;
+const THREE: u64 = 3 << 30;
 
 fn reciprocal_root(leading: u64) -> u64 {
     let place = ((leading >> 56) as usize).max(64) - 64;
     let high = leading >> 32;
     let root = RECIPROCAL_ROOTS[place] as u64;
     let near = root.wrapping_mul(root).wrapping_mul(high) >> 32;
-    let root = root.wrapping_mul(ONE_AND_A_HALF.wrapping_sub(near)) >> 15;
+    let root = root.wrapping_mul(THREE.wrapping_sub(near)) >> 15;
     let near = (root.wrapping_mul(root) >> 32).wrapping_mul(high) >> 32;
-    root.wrapping_mul(ONE_AND_A_HALF.wrapping_sub(near)) >> 31
+    root.wrapping_mul(THREE.wrapping_sub(near)) >> 31
 }
 
 fn root_guess(n: u64) -> u64 {
@@ -78,13 +78,16 @@ fn short_square(v: Vec3) -> u64 {
     short_dot(v, v) as u64
 }
 
-fn short_part(l: u64, a: i64, length: u64) -> i64 {
-    let size = (l * a.unsigned_abs() / length) as i64;
-    if a < 0 { -size } else { size }
+fn share(l: u64, size: u64, length: u64) -> u64 {
+    if length < 0x1_0000_0000 {
+        l * size / length
+    } else {
+        (l as u128 * size as u128 / length as u128) as u64
+    }
 }
 
 fn part(l: u64, a: i64, length: u64) -> i64 {
-    let size = (l as u128 * a.unsigned_abs() as u128 / length as u128) as i64;
+    let size = share(l, a.unsigned_abs(), length) as i64;
     if a < 0 { -size } else { size }
 }
 
@@ -94,15 +97,23 @@ fn dot(a: Vec3, b: Vec3) -> i128 {
 
 const SHORT: u64 = 1 << 30;
 
-fn scaled(v: Vec3, l: u64) -> Vec3 {
-    if v.x.unsigned_abs() <= SHORT && v.y.unsigned_abs() <= SHORT && v.z.unsigned_abs() <= SHORT {
-        let length = isqrt_of_word(short_square(v));
-        if length == 0 {
-            return Vec3 { x: 0, y: 0, z: 0 };
-        }
-        return Vec3 { x: short_part(l, v.x, length), y: short_part(l, v.y, length), z: short_part(l, v.z, length) };
+fn is_short(v: Vec3) -> bool {
+    v.x.unsigned_abs() <= SHORT && v.y.unsigned_abs() <= SHORT && v.z.unsigned_abs() <= SHORT
+}
+
+fn length_of(v: Vec3) -> u64 {
+    if is_short(v) {
+        isqrt_of_word(short_square(v))
+    } else {
+        isqrt(dot(v, v) as u128)
     }
-    let length = isqrt(dot(v, v) as u128);
+}
+
+fn scaled(v: Vec3, l: u64) -> Vec3 {
+    let length = length_of(v);
+    if length == 0 {
+        return Vec3 { x: 0, y: 0, z: 0 };
+    }
     Vec3 { x: part(l, v.x, length), y: part(l, v.y, length), z: part(l, v.z, length) }
 }
 

@@ -25,6 +25,3 @@ three_terms = two_terms ⊕ var 2 ⊗ var 5
 pub dot_bound : (m n : ℕ) (a b : Vec3) → Within m a → Within n b → unsigned_abs (dot a b) ≤ 3 * (m * n)
 unfolding dot
 dot_bound m n a b ha hb = omega (arith, within (six a b) (bounds m n) (six_within m n a b ha hb) three_terms)
-
-pub Within-weaker : (m n : ℕ) (v : Vec3) → m ≤ n → Within m v → Within n v
-Within-weaker m n v h w = let x = w.x in let y = w.y in let z = w.z in record { x = omega arith; y = omega arith; z = omega arith }

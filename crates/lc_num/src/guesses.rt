@@ -20,7 +20,8 @@ static RECIPROCAL_ROOTS: [u16; 192] = [
     33393, 33325, 33258, 33192, 33125, 33059, 32994, 32929, 32864, 32800,
 ];
 
-const ONE_AND_A_HALF: u64 = 3 << 30;
+// 3 in units of 1 / 2^30.
+const THREE: u64 = 3 << 30;
 
 /// About `2^63 / sqrt(leading)`, for a number from 2^62 on.
 fn reciprocal_root(leading: u64) -> u64 {
@@ -29,9 +30,9 @@ fn reciprocal_root(leading: u64) -> u64 {
     // Newton's rule for 1 / sqrt(p): r becomes r * (3 - p * r^2) / 2.
     let root = RECIPROCAL_ROOTS[place] as u64;
     let near = root.wrapping_mul(root).wrapping_mul(high) >> 32;
-    let root = root.wrapping_mul(ONE_AND_A_HALF.wrapping_sub(near)) >> 15;
+    let root = root.wrapping_mul(THREE.wrapping_sub(near)) >> 15;
     let near = (root.wrapping_mul(root) >> 32).wrapping_mul(high) >> 32;
-    root.wrapping_mul(ONE_AND_A_HALF.wrapping_sub(near)) >> 31
+    root.wrapping_mul(THREE.wrapping_sub(near)) >> 31
 }
 
 /// About the root of a number.

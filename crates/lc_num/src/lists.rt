@@ -6,7 +6,7 @@ use std::alloc::Global;
 use std::marker::Model;
 
 /// A list that grows at its end.
-#[derive(Drop)]
+#[derive(Debug, Drop)]
 pub struct List<T> {
     held: Vec<T>,
 }

@@ -144,7 +144,13 @@ fn texts(rt: HostRuntime) {
 #[test]
 fn names(rt: HostRuntime) {
     match Name::from_text(rt.alloc(), "room.obj") {
-        Ok(name) => assert_eq!(rt; name.as_str(), "room.obj"),
+        Ok(name) => {
+            assert_eq!(rt; name.as_str(), "room.obj");
+            match name.to_string(rt.alloc()) {
+                Ok(text) => assert_eq!(rt; text.as_str(), "room.obj"),
+                Err(error) => assert_eq!(rt; Err(Memory::from(error)), Ok(())),
+            }
+        }
         Err(error) => assert_eq!(rt; Err(error), Ok(())),
     }
 }

@@ -6,7 +6,7 @@ use std::alloc::Global;
 use std::marker::Model;
 
 /// Bytes that grow at their end, as the text of a file that is written.
-#[derive(Drop)]
+#[derive(Debug, Drop)]
 pub struct Text {
     held: Vec<u8>,
 }

@@ -1,5 +1,5 @@
 -- Steps of a course, one after another.
-use Rattle.std.proofs.Common.{◌≡◌, ℕ, List, ◌++◌, sym, ap, subst, Option, Some, None, IfSome, IfOk, Result, Ok, Err, Contains}
+use Rattle.std.proofs.Common.{◌≡◌, ℕ, List, ◌++◌, sym, ap, subst, Option, Some, None, IfSome, Result, Ok, Err, Contains}
 use Rattle.std.proofs.lemmas.List.Elements.{Contains-append_left, Contains-append_right}
 use Rattle.lc_desk.specs.Desk.{Files}
 use Rattle.lc_tool.specs.declared.status.Stop.{Stop}

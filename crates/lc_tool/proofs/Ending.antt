@@ -1,7 +1,7 @@
 -- Ends of a run, by its steps.
-use Rattle.std.proofs.Common.{◌≡◌, ◌≤◌, ℕ, List, refl, sym, ◌∙◌, ap, subst, Option, None, IfSome, Result, Ok, Err, OnOk, OnErr, IfErr}
+use Rattle.std.proofs.Common.{◌≡◌, ℕ, List, refl, sym, ◌∙◌, ap, subst, Option, None, IfSome, Result, Ok, Err, OnOk, OnErr, IfErr}
 use Rattle.lc_desk.specs.declared.desk.Slot.{Slot}
-use Rattle.lc_desk.specs.declared.desk.Slot.TheVariants.{Picture, Bounds, Report, Note}
+use Rattle.lc_desk.specs.declared.desk.Slot.TheVariants.{Report}
 use Rattle.lc_desk.specs.Causes.{Rose}
 use Rattle.lc_desk.proofs.RoseLemmas.{Rose-since, Rose-until}
 use Rattle.lc_desk.specs.Desk.{DeskState, Files, Later, OnlyReads, OnlySlot, TookPart, appended, fault_at, with_slot}
@@ -10,10 +10,9 @@ use Rattle.lc_tool.specs.declared.status.Status.TheVariants.{Done, Usage, Stoppe
 use Rattle.lc_tool.specs.declared.status.WriteStop.{WriteStop}
 use Rattle.lc_tool.specs.declared.status.WriteStop.TheVariants as write
 use Rattle.lc_tool.specs.Course.{Course, and_then, at_once}
-use Rattle.lc_tool.specs.Stopped.{StoppedBy}
 use Rattle.lc_tool.specs.Written.{Written, Writing, Partly, IsWritten, wrote}
 use Rattle.lc_tool.specs.Outcome.{IsReportOnly}
-use Rattle.lc_tool.specs.Ends.{Ends, Finished, BrokenBy, HasFailed}
+use Rattle.lc_tool.specs.Ends.{Ends, HasFailed}
 use Rattle.lc_tool.specs.Settled.{IsStopOf, Settled}
 use Rattle.lc_tool.proofs.Keeps.{later_then, fault_later}
 use Rattle.lc_tool.proofs.Courses.{told_both, told_always, went_end}

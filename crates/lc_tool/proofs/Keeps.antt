@@ -1,11 +1,11 @@
 -- What calls on a desk keep, one after another.
-use Rattle.std.proofs.Common.{◌≡◌, ◌⊎◌, ℕ, ◌+◌, ◌-◌, ◌^◌, ◌≤◌, min, List, [], ◌++◌, Option, Some, None, option_map, refl, sym, ◌∙◌, ap, inl, inr, arith, append_assoc, append-nil, IsTrue, subst, take}
+use Rattle.std.proofs.Common.{◌≡◌, ◌⊎◌, ℕ, ◌≤◌, List, [], ◌++◌, Option, Some, None, option_map, refl, sym, ◌∙◌, ap, inl, inr, arith, append_assoc, append-nil, IsTrue, subst, take}
 use Rattle.lc_desk.specs.declared.desk.Slot.{Slot}
 use Rattle.lc_desk.specs.declared.desk.Slot.TheVariants.{Picture, Bounds, Report, Note}
 use Rattle.lc_desk.specs.Causes.{Rose}
 use Rattle.lc_desk.proofs.RoseLemmas.{Rose-since}
 use Rattle.lc_desk.specs.Desk.{DeskState, SlotState, Faults, Later, OnlyReads, appended, fault_at}
-use Rattle.lc_tool.specs.Noted.{Said, Cut}
+use Rattle.lc_tool.specs.Noted.{Said}
 
 pub later_then : (a b c : DeskState) → Later a b → Later b c → Later a c
 later_then a b c ab bc = record {

@@ -1,15 +1,13 @@
 -- A line on Note, put in two pieces.
-use Rattle.std.proofs.Common.{◌≡◌, ◌⊎◌, ℕ, ◌+◌, ◌≤◌, min, List, [], ◌∷◌, ◌++◌, zero, suc, length, take, refl, sym, ◌∙◌, ap, inl, inr, arith, append-nil, ◌-◌, drop, slice_index_or, Bor, Bool, false, Result, Ok, Err, is_ok, IsErrOf, OnOk, subst}
-use Rattle.std.proofs.lemmas.List.{take-append-le}
-use Rattle.std.proofs.Math.Seq.{take-append-add, take-append_seam}
+use Rattle.std.proofs.Common.{◌≡◌, ◌⊎◌, ℕ, ◌+◌, List, [], ◌∷◌, ◌++◌, zero, suc, length, take, refl, sym, ◌∙◌, ap, inl, inr, append-nil, false, Result, Ok, Err, is_ok, IsErrOf, OnOk, subst}
+use Rattle.std.proofs.Math.Seq.{take-append-add}
 use Rattle.lc_desk.specs.declared.desk.Slot.TheVariants.{Note}
-use Rattle.std.proofs.lemmas.Grind.{common_steps}
 use Rattle.lc_desk.specs.declared.desk.PutStop.{PutStop}
 use Rattle.lc_desk.specs.declared.desk.PutStop.TheVariants.{Failed, Memory}
 use Rattle.lc_desk.specs.Causes.{Rose}
 use Rattle.lc_desk.proofs.RoseLemmas.{Rose-since}
-use Rattle.lc_desk.specs.Desk.{DeskState, SlotState, Later, OnlyReads, OnlySlot, TookPart, appended, with_slot}
-use Rattle.lc_tool.specs.Noted.{Noted, Cut, Said}
+use Rattle.lc_desk.specs.Desk.{DeskState, OnlySlot, TookPart, appended, with_slot}
+use Rattle.lc_tool.specs.Noted.{Noted, Said}
 use Rattle.lc_tool.proofs.Keeps.{with_note, later_then, appended-nil, appended-appended}
 
 -- a first part of a piece is a first part of the line

@@ -1,5 +1,5 @@
 -- What a run's number says of its end.
-use Rattle.std.proofs.Common.{◌≡◌, ◌⊎◌, ℕ, ◌<◌, ◌==◌, List, refl, sym, ◌∙◌, ap, inl, inr, subst, Option, Some, None, IfSome, arith, cond, if◌then◌else◌}
+use Rattle.std.proofs.Common.{◌≡◌, ◌⊎◌, ℕ, ◌<◌, ◌==◌, refl, sym, ◌∙◌, ap, inl, inr, subst, Option, Some, None, IfSome, arith, if◌then◌else◌}
 use Rattle.lc_desk.specs.declared.desk.Slot.{Slot}
 use Rattle.lc_desk.specs.Causes.{Rose}
 use Rattle.lc_desk.specs.Desk.{DeskState, Files, fault_at}
@@ -7,16 +7,14 @@ use Rattle.lc_tool.specs.declared.status.Source.{Source}
 use Rattle.lc_tool.specs.declared.status.Source.TheVariants.{Job, Scene, Library, Lights}
 use Rattle.lc_tool.specs.declared.status.Stop.{Stop}
 use Rattle.lc_tool.specs.declared.status.Stop.TheVariants.{Memory, Faulty, Absent, ReadFault, Long}
-use Rattle.lc_tool.specs.declared.status.WriteStop.{WriteStop}
 use Rattle.lc_tool.specs.declared.status.WriteStop.TheVariants as write
 use Rattle.lc_tool.specs.declared.status.Status.{Status}
 use Rattle.lc_tool.specs.declared.status.Status.TheVariants.{Done, Usage, Stopped, Unwritten}
 use Rattle.lc_tool.specs.Words.{Command}
-use Rattle.lc_tool.specs.Course.{Course}
 use Rattle.lc_tool.specs.Lines.{usage_line}
 use Rattle.lc_tool.specs.Written.{Written, IsWritten}
 use Rattle.lc_tool.specs.Outcome.{course_of, status_of, WritesLike}
-use Rattle.lc_tool.specs.Status.{source_code, stop_code, write_code, code}
+use Rattle.lc_tool.specs.Status.{stop_code, code}
 use Rattle.lc_tool.specs.Stopped.{StoppedBy}
 use Rattle.lc_tool.specs.Ends.{Ends, Finished, BrokenBy, Runs, HasLine, IsLineOf, SameOutputs}
 use Rattle.lc_tool.proofs.Keeps.{said_since}

@@ -1,18 +1,18 @@
 -- Stops before anything is written, and how steps pass them on.
-use Rattle.std.proofs.Common.{◌≡◌, ◌⊎◌, ℕ, ◌<◌, List, [], ◌∷◌, length, refl, ◌∙◌, ap, inl, inr, subst, Option, Some, None, IfSome, Ok, take, lit<, rules}
+use Rattle.std.proofs.Common.{◌≡◌, ℕ, ◌<◌, List, length, refl, ◌∙◌, ap, subst, Option, Some, None, IfSome, Ok, lit<, rules}
 use Rattle.lc_num.specs.Faults.{Fault}
 use Rattle.lc_desk.specs.declared.desk.Slot.TheVariants.{Note}
 use Rattle.lc_desk.specs.Causes.{Rose}
 use Rattle.lc_desk.proofs.RoseLemmas.{Rose-since, Rose-until}
-use Rattle.lc_desk.specs.Desk.{DeskState, Files, Told, Later, OnlyReads, with_slot, appended}
+use Rattle.lc_desk.specs.Desk.{DeskState, Files, Told, Later, OnlyReads, with_slot}
 use Rattle.lc_tool.specs.declared.status.Source.{Source}
 use Rattle.lc_tool.specs.declared.status.Stop.{Stop}
 use Rattle.lc_tool.specs.declared.status.Stop.TheVariants.{Memory, Faulty, Absent, ReadFault, Long}
 use Rattle.lc_tool.specs.Course.{Course, refuses, and_then, at_once}
 use Rattle.lc_tool.specs.Lines.{file_limit, memory_line, fault_line, absent_line, long_line, read_fault_line}
 use Rattle.lc_tool.specs.Outcome.{text_of, within, unless_faulty}
-use Rattle.lc_tool.specs.Noted.{Noted, Said, Cut}
-use Rattle.lc_tool.specs.Stopped.{StoppedBy, Refuses, HasCause}
+use Rattle.lc_tool.specs.Noted.{Noted}
+use Rattle.lc_tool.specs.Stopped.{StoppedBy, HasCause}
 use Rattle.lc_tool.proofs.Keeps.{later_then, with_note, said_since}
 use Rattle.lc_tool.proofs.Courses.{told_as, told_both, told_always, refuses_first, refuses_next}
 

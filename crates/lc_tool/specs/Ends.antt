@@ -1,14 +1,13 @@
 -- How a run ends: done, stopped before anything is written, or broken off while it is written.
-use Rattle.std.specs.Prelude.{◌≡◌, ◌⊎◌, ℕ, ◌+◌, List, Option, Some, None, IfSome, IfOk, Result, Ok, Err}
+use Rattle.std.specs.Prelude.{◌≡◌, ◌⊎◌, ℕ, ◌+◌, List, Option, Some, None, IfSome, IfOk, Ok}
 use Rattle.lc_desk.specs.declared.desk.Slot.{Slot}
 use Rattle.lc_desk.specs.Causes.{Rose}
 use Rattle.lc_desk.specs.Desk.{DeskState, Files, Faults, Later, fault_at}
-use Rattle.lc_tool.specs.declared.status.Stop.{Stop}
 use Rattle.lc_tool.specs.declared.status.WriteStop.{WriteStop}
 use Rattle.lc_tool.specs.declared.status.WriteStop.TheVariants as write
 use Rattle.lc_tool.specs.declared.status.Status.{Status}
 use Rattle.lc_tool.specs.declared.status.Status.TheVariants.{Done, Usage, Stopped, Unwritten}
-use Rattle.lc_tool.specs.Course.{Course, Refusal}
+use Rattle.lc_tool.specs.Course.{Course}
 use Rattle.lc_tool.specs.Lines.{usage_line, memory_line, write_fault_line}
 use Rattle.lc_tool.specs.Noted.{Said, Noted}
 use Rattle.lc_tool.specs.Words.{Command, command_of}

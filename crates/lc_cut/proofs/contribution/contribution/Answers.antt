@@ -1,4 +1,4 @@
-use Rattle.std.proofs.Common.{◌≡◌, ℕ, ◌*◌, ◌≤◌, arith, refl, sym, ap, ◌∙◌}
+use Rattle.std.proofs.Common.{refl}
 use Rattle.lc_cut.specs.Contribution.{contribution}
 use Rattle.lc_cut.proofs.contribution.contribution.Goals as goal
 

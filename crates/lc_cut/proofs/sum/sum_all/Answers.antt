@@ -1,6 +1,5 @@
-use Rattle.std.proofs.Common.{◌≡◌, ◌+◌, ◌*◌, ◌^◌, ◌<◌, ◌≤◌, length, take, get_or, arith, refl, sym, ap, ◌∙◌, subst, rules}
-use Rattle.std.proofs.lemmas.List.{take_all}
-use Rattle.lc_num.specs.Channels.{plus, IsRgbWithin}
+use Rattle.std.proofs.Common.{◌*◌, ◌^◌, ◌<◌, take, arith, refl, sym, ap, ◌∙◌, rules}
+use Rattle.lc_num.specs.Channels.{plus}
 use Rattle.lc_cut.specs.Contribution.{plain}
 use Rattle.lc_cut.proofs.SumLemmas.{plain_more, plus_within, wider}
 use Rattle.lc_cut.proofs.sum.sum_all.Goals as goal

@@ -1,5 +1,4 @@
-use Rattle.std.proofs.Common.{rules, ◌≡◌, ◌++◌, subst}
-use Rattle.lc_tool.specs.Noted.{Noted}
+use Rattle.std.proofs.Common.{rules}
 use Rattle.lc_tool.proofs.Noting.{noted_more, noted_refused, noted_put}
 use Rattle.lc_tool.proofs.note.note.Goals as goal
 

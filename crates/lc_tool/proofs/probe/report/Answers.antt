@@ -1,4 +1,4 @@
-use Rattle.std.proofs.Common.{◌≡◌, List, ℕ, rules, subst, Ok}
+use Rattle.std.proofs.Common.{◌≡◌, rules, subst, Ok}
 use Rattle.lc_tool.specs.Course.{at_once}
 use Rattle.lc_tool.specs.Lines.{record_line}
 use Rattle.lc_tool.specs.Outcome.{IsReportOnly}

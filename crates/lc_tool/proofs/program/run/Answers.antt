@@ -1,5 +1,5 @@
-use Rattle.std.proofs.Common.{◌≡◌, ◌<◌, ℕ, sym, ◌∙◌, ap, subst, map, IfSome, IfOk, arith, ◌⊎◌}
-use Rattle.lc_tool.specs.Status.{code, source_code, stop_code}
+use Rattle.std.proofs.Common.{◌≡◌, sym, ◌∙◌, subst, map, ◌⊎◌}
+use Rattle.lc_tool.specs.Status.{code}
 use Rattle.lc_tool.specs.declared.status.Stop.TheVariants.{Faulty}
 use Rattle.lc_tool.specs.Words.{command_of}
 use Rattle.lc_tool.specs.Outcome.{course_of, status_of}

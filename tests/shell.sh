@@ -1,0 +1,69 @@
+#!/usr/bin/env bash
+# Runs the built program from a shell, over real files and streams, and compares status, output and note.
+# Give the program's path, or run `rt run` in crates/lightcuts first.
+set -u
+program=$(realpath "${1:-$(dirname "$0")/../crates/lightcuts/out/lightcuts}") || exit 2
+work=$(mktemp -d)
+trap 'chmod -R u+rwx "$work"; rm -rf "$work"' EXIT
+cd "$work" || exit 2
+good=0 bad=0
+
+# case NAME STATUS OUTPUT NOTE COMMAND..: the command's standard output and error are files of these names
+case_of() {
+    local name=$1 status=$2 output=$3 note=$4
+    shift 4
+    "$@" >out 2>err
+    local got=$?
+    if [ $got -eq "$status" ] && [ "$(cat out)" = "$output" ] && [ "$(cat err)" = "$note" ]; then
+        good=$((good + 1))
+    else
+        bad=$((bad + 1))
+        echo "$name: status $got, output '$(cat out)', note '$(cat err)'"
+    fi
+}
+
+probe() { "$program" probe "$1" 0 0 0 0 0 1; }
+usage='usage: lightcuts probe LIGHTS X Y Z NX NY NZ | render JOB | plain JOB | audit JOB STEP | make N'
+row='1 1 6553600000000000000000 6553600000000000000000 6553600000000000000000 0 0 0'
+echo 'point 0 0 1 1 1 1' >l.txt
+echo 'point 0 0 one 1 1 1' >faulty.txt
+printf 'point 0 0 1 1 1 1' >unended.txt
+: >empty.txt
+mkdir folder
+truncate -s 134217729 long.txt
+cp l.txt locked.txt
+chmod 000 locked.txt
+
+case_of 'a light' 0 "$row" '' probe l.txt
+case_of 'no line feed at the end' 0 "$row" '' probe unended.txt
+case_of 'a path' 0 "$row" '' probe "$work/l.txt"
+case_of 'a pipe as the file' 0 "$row" '' probe <(cat l.txt)
+case_of 'no light' 0 '0 0 0 0 0 0 0 0' '' probe empty.txt
+case_of 'no words' 2 '' "$usage" "$program"
+case_of 'a word too few' 2 '' "$usage" "$program" probe l.txt 0 0 0 0 0
+case_of 'a number out of range' 2 '' "$usage" "$program" probe l.txt 0 0 5000.0001 0 0 1
+case_of 'a word that is no text' 2 '' "$usage" "$program" probe $'\xff' 0 0 0 0 0 1
+case_of 'a command that is not built yet' 2 '' "$usage" "$program" render j.txt
+case_of 'a faulty number' 6 '' 'faulty.txt: line 1: kind 2' probe faulty.txt
+case_of 'a missing file' 7 '' 'none.txt: absent' probe none.txt
+case_of 'a name without letters' 7 '' ': absent' probe ''
+case_of 'a folder as the file' 8 '' 'folder: read fault' probe folder
+case_of 'a long file' 10 '' 'long.txt: longer than 134217728 bytes' probe long.txt
+truncate -s 134217728 long.txt
+case_of 'a file of the limit, of NUL bytes' 6 '' 'long.txt: line 1: kind 1' probe long.txt
+closed() { probe l.txt >&-; }
+case_of 'standard output closed' 9 '' 'report: write fault' closed
+full() { probe l.txt >/dev/full; }
+case_of 'standard output full' 9 '' 'report: write fault' full
+mute() { probe none.txt 2>&-; }
+case_of 'standard error closed' 7 '' '' mute
+if [ "$(id -u)" -eq 0 ]; then
+    chmod 755 "$work"
+    as_nobody() { setpriv --reuid 65534 --clear-groups "$program" probe locked.txt 0 0 0 0 0 1; }
+    case_of 'a file without leave to read' 8 '' 'locked.txt: read fault' as_nobody
+else
+    case_of 'a file without leave to read' 8 '' 'locked.txt: read fault' probe locked.txt
+fi
+
+echo "$good as wanted, $bad not"
+[ $bad -eq 0 ]

@@ -3,6 +3,7 @@ use Rattle.std.specs.Prelude.{◌≡◌, ◌⊎◌, ℕ, ◌+◌, List, Option, 
 use Rattle.lc_desk.specs.declared.desk.Slot.{Slot}
 use Rattle.lc_desk.specs.Causes.{Rose}
 use Rattle.lc_desk.specs.Desk.{DeskState, Files, Faults, Later, fault_at}
+use Rattle.lc_tool.specs.declared.status.Stop.{Stop}
 use Rattle.lc_tool.specs.declared.status.WriteStop.{WriteStop}
 use Rattle.lc_tool.specs.declared.status.WriteStop.TheVariants as write
 use Rattle.lc_tool.specs.declared.status.Status.{Status}
@@ -59,11 +60,19 @@ abbrev pub Runs : Option Command → Status → Option Files → DeskState → D
 Runs None status held before now = (status ≡ Usage) × Noted usage_line before now
 Runs (Some command) status held before now = Ends status (WritesLike (Some command)) held (course_of (Some command)) before now
 
--- a run by its number
-pub record Ran (words : List (List ℕ)) (result : ℕ) (before now : DeskState) : Type 0 where
-  pub status : Status
-  pub number : result ≡ code status
-  pub runs : Runs (command_of words) status before.held before now
+-- ---- a run by its words
+
+-- all that the outcome gives is written, and nothing else
+abbrev pub Does : List (List ℕ) → DeskState → DeskState → Type 0
+Does words before now = Finished (WritesLike (command_of words)) before.held (outcome words) before now
+
+-- the run stopped before anything was written
+abbrev pub Stops : List (List ℕ) → Stop → DeskState → DeskState → Type 0
+Stops words stop before now = StoppedBy stop before.held (outcome words) before now
+
+-- the run broke off while it wrote
+abbrev pub Breaks : List (List ℕ) → WriteStop → DeskState → DeskState → Type 0
+Breaks words stop before now = BrokenBy stop (WritesLike (command_of words)) before.held (outcome words) before now
 
 -- ---- what follows, by the number
 

@@ -1,5 +1,5 @@
 -- What `probe` has recorded where it is done.
-use Rattle.std.specs.Prelude.{◌≡◌, ◌+◌, ℕ, List, length, Option, Some, None}
+use Rattle.std.specs.Prelude.{◌≡◌, ◌+◌, ℕ, List, length, Option, Some, None, IfSome}
 use Rattle.lc_num.specs.Channels.{black}
 use Rattle.lc_num.specs.declared.vectors.Vec3.{Vec3}
 use Rattle.lc_desk.specs.Desk.{DeskState, Files, appended}
@@ -8,7 +8,7 @@ use Rattle.lc_cut.specs.Contribution.{plain}
 use Rattle.lc_cut.specs.declared.answer.Answer.{Answer}
 use Rattle.lc_tool.specs.Lines.{record_line}
 use Rattle.lc_tool.specs.Outcome.{probe_spot}
-use Rattle.lc_tool.specs.Words.{Command, probe}
+use Rattle.lc_tool.specs.Words.{Command, probe, command_of}
 
 -- Report has gained one line, and each other slot is as it was. The line's size and evaluations are the number of
 -- the file's lights, its estimate is the sum of their contributions, its bounds are 0. The counter rose by the evaluations
@@ -27,3 +27,7 @@ pub record ProbeRecorded (name : List ℕ) (place direction : Vec3) (files : Fil
 abbrev pub Recorded : Option Command → Files → DeskState → DeskState → ℕ → ℕ → Type 0
 Recorded None files before now steps_before steps_now = Unit {0}
 Recorded (Some (probe name place direction)) files before now steps_before steps_now = ProbeRecorded name place direction files before now steps_before steps_now
+
+-- over a desk that tells its files, the command has left its record
+abbrev pub Records : List (List ℕ) → DeskState → DeskState → ℕ → ℕ → Type 0
+Records words before now steps_before steps_now = IfSome before.held (λ files. Recorded (command_of words) files before now steps_before steps_now)

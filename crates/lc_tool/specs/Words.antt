@@ -1,8 +1,13 @@
 -- The words of the command line, as a command.
-use Rattle.std.specs.Prelude.{ℕ, ◌+◌, ◌==◌, ◌&&◌, Bool, List, [], length, slice_index_or, Option, Some, None, ℤ, unsigned_abs, nat_lt, if◌then◌else◌, codes}
+use Rattle.std.specs.Prelude.{ℕ, ◌+◌, ◌==◌, ◌&&◌, Bool, List, [], length, slice_index_or, Option, Some, None, ℤ, unsigned_abs, nat_lt, if◌then◌else◌, codes, map}
+use Rattle.std.proofs.Common.{Bor}
 use Rattle.std.specs.Str.{bytes_eq}
 use Rattle.lc_num.specs.declared.vectors.Vec3.{Vec3}
 use Rattle.lc_light.specs.Numbers.{short_units}
+
+-- the words as they are passed
+abbrev pub texts : List (Bor (List ℕ)) → List (List ℕ)
+texts words = map (λ word. word.now) words
 
 pub data Command : Type 0 where
   -- the name of a light file, a place, and the direction of a normal

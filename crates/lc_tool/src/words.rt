@@ -1,6 +1,6 @@
 // The words of the command line.
-ghost use Rattle.std.specs.Prelude.{◌≡◌, ◌≤◌, map, option_map, IfSome, unsigned_abs};
-ghost use Rattle.lc_tool.specs.Words.{command_of, probe_of, coordinate, vector_of};
+ghost use Rattle.std.specs.Prelude.{◌≡◌, ◌≤◌, option_map, IfSome, unsigned_abs};
+ghost use Rattle.lc_tool.specs.Words.{command_of, probe_of, coordinate, vector_of, texts};
 ghost use Rattle.lc_num.specs.Vectors.{Within};
 ghost use Rattle.lc_tool.specs.Meant.{meant, IsInRange};
 
@@ -62,7 +62,7 @@ fn probe_command<'a>(
 
 /// The command that the words are.
 pub fn read_words<'a>(words: &[&'a str]) -> Option<Command<'a>>
-    ensures value { option_map meant result ≡ command_of (map (λ word. word.now) words.now) }
+    ensures value { option_map meant result ≡ command_of (texts words.now) }
     ensures range { IfSome result IsInRange }
 {
     let [word, lights, x, y, z, nx, ny, nz] = words else {

@@ -12,7 +12,7 @@ while [ $whole -lt 3 ]; do
     out=$(rt try --fail-alloc $n --data lights.txt=data/lights.txt -- probe lights.txt 0 0 0 0 0 1 2>"$errors")
     status=$?
     # What rt says of the run stands among the program's own lines on standard error.
-    note=$(grep -vE '^(allocations|checked|run)[:=]' "$errors")
+    note=$(grep -vE '^(allocations|checked|interpreter|run)[:=]' "$errors")
     if [ $status -eq 0 ] && [ "$out" = "$row" ] && [ -z "$note" ]; then
         whole=$((whole + 1))
     elif [ $status -eq 1 ] && [ -z "$out" ] && { [ -z "$note" ] || [ "$note" = "out of memory" ]; }; then

@@ -1,6 +1,7 @@
 -- The order of ℤ and products.
-use Rattle.std.proofs.Common.{◌≡◌, ◌⊎◌, ℤ, pos, negsuc, ◌+ℤ◌, ◌-ℤ◌, ◌*ℤ◌, ◌≤ℤ◌, [], ◌∷◌, refl, inl, inr, arith}
-use Rattle.std.proofs.lemmas.Int.{ints}
+use Rattle.std.proofs.Common.{◌≡◌, ◌⊎◌, ⊎_elim, ℤ, pos, negsuc, ◌+ℤ◌, ◌-ℤ◌, ◌*ℤ◌, ◌≤ℤ◌, [], ◌∷◌, refl, inl, inr, arith}
+use Rattle.std.specs.Int.{int_max}
+use Rattle.std.proofs.lemmas.Int.{ints, clamps}
 use Rattle.lc_algebra.proofs.Poly.{var, con, add, mul, neg, ring, same}
 
 pub ≤ℤ_trans : (a b c : ℤ) → a ≤ℤ b → b ≤ℤ c → a ≤ℤ c
@@ -48,3 +49,11 @@ add-le3 a b c x y z h g k = omega (arith, ints)
 
 pub le_of_sum : (a b c : ℤ) → a ≡ b +ℤ c → pos 0 ≤ℤ c → b ≤ℤ a
 le_of_sum a b c e h = omega (arith, ints)
+
+-- a product with a number between two is at most the greater of the products with these
+pub between_products : (n lo hi b : ℤ) → lo ≤ℤ b → b ≤ℤ hi → (n *ℤ b) ≤ℤ int_max (n *ℤ lo) (n *ℤ hi)
+between_products n lo hi b low high =
+    ⊎_elim
+    (λ (up : pos 0 ≤ℤ n). let h = mul-le_left n b hi up high in omega (arith, ints, clamps))
+    (λ (down : n ≤ℤ pos 0). let h = mul-le_left_neg n lo b down low in omega (arith, ints, clamps))
+    (cases_sign n)

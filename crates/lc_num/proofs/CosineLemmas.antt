@@ -14,7 +14,7 @@ use Rattle.lc_num.proofs.Triples.{dot_bound}
 use Rattle.lc_num.proofs.SquareLemmas.{square_bound, schwarz}
 
 -- what a comparison with zero tells
-not_positive : (z : ℤ) → int_le z (pos 0) ≡ true → int_lt (pos 0) z ≡ false
+pub not_positive : (z : ℤ) → int_le z (pos 0) ≡ true → int_lt (pos 0) z ≡ false
 not_positive (pos n) h = grind (arith, nat_tests)
 not_positive (negsuc n) h = refl
 

@@ -3,3 +3,6 @@ pub mod SquareLemmas
 pub mod ScaledLemmas
 pub mod CosineLemmas
 pub mod DifferenceLemmas
+pub mod BoxLemmas
+pub mod CosineLaw
+pub mod BoxCode

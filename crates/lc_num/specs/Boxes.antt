@@ -1,5 +1,8 @@
--- Boxes of unbounded whole numbers.
-use Rattle.std.specs.Prelude.{◌≤ℤ◌}
+-- Boxes of unbounded whole numbers: their points, the nearest one, and bounds of cosines over them.
+use Rattle.std.specs.Prelude.{ℕ, ◌≤◌, ◌*◌, ◌⊎◌, ℤ, ◌+ℤ◌, ◌*ℤ◌, ◌≤ℤ◌}
+use Rattle.std.specs.Int.{int_min, int_max}
+use Rattle.lc_num.specs.Vectors.{Within, difference, square}
+use Rattle.lc_num.specs.Cosines.{cosine_at_most, cos16}
 use Rattle.lc_num.specs.declared.vectors.Vec3.{Vec3}
 
 -- a box by its least and its greatest corner
@@ -11,3 +14,44 @@ pub record IsOrdered (lo hi : Vec3) : Type 0 where
   pub x : lo.x ≤ℤ hi.x
   pub y : lo.y ≤ℤ hi.y
   pub z : lo.z ≤ℤ hi.z
+
+-- the point p is in the box
+pub record IsInside (box : Ends) (p : Vec3) : Type 0 where
+  pub x : (box.lo.x ≤ℤ p.x) × (p.x ≤ℤ box.hi.x)
+  pub y : (box.lo.y ≤ℤ p.y) × (p.y ≤ℤ box.hi.y)
+  pub z : (box.lo.z ≤ℤ p.z) × (p.z ≤ℤ box.hi.z)
+
+-- each component of both corners is at most `most` in absolute value
+pub record IsBoxWithin (most : ℕ) (box : Ends) : Type 0 where
+  pub lo : Within most box.lo
+  pub hi : Within most box.hi
+
+-- the point of the box that is nearest to x
+abbrev pub nearest : Vec3 → Ends → Vec3
+nearest x box = record {
+  x = int_max box.lo.x (int_min x.x box.hi.x);
+  y = int_max box.lo.y (int_min x.y box.hi.y);
+  z = int_max box.lo.z (int_min x.z box.hi.z);
+}
+
+-- the squared distance from x to the box
+unfoldable pub near2 : Vec3 → Ends → ℕ
+near2 x box = square (difference (nearest x box) x)
+
+-- the greatest dot product of n with a point of the box
+unfoldable pub greatest_dot : Vec3 → Ends → ℤ
+greatest_dot n box =
+    int_max (n.x *ℤ box.lo.x) (n.x *ℤ box.hi.x) +ℤ int_max (n.y *ℤ box.lo.y) (n.y *ℤ box.hi.y)
+    +ℤ int_max (n.z *ℤ box.lo.z) (n.z *ℤ box.hi.z)
+
+-- one of the two is at most 16384 in each component, and the other at most 100,100,000
+abbrev pub CanBound : Vec3 → Ends → Type 0
+CanBound n box = (Within 16384 n × IsBoxWithin 100_100_000 box) ⊎ (Within 100_100_000 n × IsBoxWithin 16384 box)
+
+-- a bound of `cos16` from n to the vectors of the box whose squared length is at least `least`
+unfoldable pub cos_top : Vec3 → Ends → ℕ → ℕ
+cos_top n box least = cosine_at_most (greatest_dot n box) (square n * least)
+
+-- no cosine from n to a vector of the box whose squared length is at least `least` is above `top`
+abbrev pub BoundsCosines : Vec3 → Ends → ℕ → ℕ → Type 0
+BoundsCosines n box least top = (b : Vec3) → IsInside box b → least ≤ square b → cos16 n b ≤ top

@@ -1,5 +1,5 @@
 -- Vectors of a given length, and cosines in 1/65536.
-use Rattle.std.specs.Prelude.{ℕ, ◌==◌, ◌*◌, ◌^◌, ◌⊎◌, if◌then◌else◌, pos, ◌*ℤ◌, unsigned_abs}
+use Rattle.std.specs.Prelude.{ℕ, ◌==◌, ◌*◌, ◌^◌, min, ◌⊎◌, if◌then◌else◌, ℤ, pos, ◌*ℤ◌, unsigned_abs}
 use Rattle.std.specs.Int.RustNames.{int_div, int_lt}
 use Rattle.lc_algebra.specs.Roots.{isqrt, ratio_root}
 use Rattle.lc_num.specs.Vectors.{Within, zero_vector, dot, square}
@@ -26,4 +26,12 @@ unfoldable pub cos16 : Vec3 → Vec3 → ℕ
 cos16 n b =
     if int_lt (pos 0) (dot n b)
     then ratio_root (square n * square b) (2 ^ 32 * (unsigned_abs (dot n b) * unsigned_abs (dot n b)))
+    else 0
+
+-- the cosine in 1/65536 that a dot product and a product of two squared lengths give, rounded down: 0 where the dot
+-- product is not positive, else 65536 where the product of the squared lengths is 0, and never above 65536
+unfoldable pub cosine_at_most : ℤ → ℕ → ℕ
+cosine_at_most along squares =
+    if int_lt (pos 0) along
+    then (if squares == 0 then 65536 else min 65536 (ratio_root squares (2 ^ 32 * (unsigned_abs along * unsigned_abs along))))
     else 0

@@ -1,4 +1,12 @@
-// Boxes along the axes.
+// Boxes along the axes: their least distance from a place, and bounds of cosines over them.
+ghost use Rattle.std.specs.Prelude.{◌≡◌, ℕ, ◌+◌, ◌*◌, ◌≤◌, ◌-ℤ◌, ◌*ℤ◌, ◌≤ℤ◌, unsigned_abs};
+ghost use Rattle.std.specs.Int.{int_min, int_max};
+ghost use Rattle.lc_num.specs.Vectors.{Within, difference, square};
+ghost use Rattle.lc_num.specs.Boxes.{IsInside, IsBoxWithin, CanBound, near2, greatest_dot, cos_top, BoundsCosines};
+ghost use Rattle.lc_num.specs.declared.vectors.Vec3.{Vec3};
+
+use crate::cosines::cosine_at_most;
+use crate::products::short_square;
 use crate::vectors::Vec3;
 use std::marker::Model;
 
@@ -19,4 +27,68 @@ impl Model for Span3 {
     ghost invariant = { λ b. IsOrdered b.lo b.hi };
 
     ghost inverse = { λ e. record { lo = e.lo; hi = e.hi } };
+}
+
+/// How far `x` is from what lies between `lo` and `hi`.
+fn gap(x: i64, lo: i64, hi: i64) -> u64
+    requires order { lo ≤ℤ hi }
+    requires x { unsigned_abs x ≤ 50_100_000 }
+    requires lo { unsigned_abs lo ≤ 50_100_000 }
+    requires hi { unsigned_abs hi ≤ 50_100_000 }
+    ensures value { result ≡ unsigned_abs (int_max lo (int_min x hi) -ℤ x) }
+    ensures most { result ≤ 100_200_000 }
+{
+    x.clamp(lo, hi).abs_diff(x)
+}
+
+/// The least squared distance from a place `x` to a point of the box, in the square of the places' unit. The
+/// components of `x` and of the box are at most 50,100,000.
+pub fn near2(x: Vec3, span: Span3) -> u128
+    requires x { Within 50_100_000 x }
+    requires span { IsBoxWithin 50_100_000 span }
+    ensures value { result ≡ near2 x span }
+    ensures reached { (p : Vec3) × IsInside span p × (result ≡ square (difference p x)) }
+    ensures least { (p : Vec3) → IsInside span p → result ≤ square (difference p x) }
+    ensures within { (m n : ℕ) → Within m x → IsBoxWithin n span → result ≤ 3 * ((m + n) * (m + n)) }
+{
+    let a = gap(x.x, span.lo.x, span.hi.x);
+    let b = gap(x.y, span.lo.y, span.hi.y);
+    let c = gap(x.z, span.lo.z, span.hi.z);
+    (a * a + b * b + c * c) as u128
+}
+
+/// The greater of two products with `n`.
+fn greater_product(n: i64, lo: i64, hi: i64) -> i64
+    requires lo { unsigned_abs n * unsigned_abs lo ≤ 16384 * 100_100_000 }
+    requires hi { unsigned_abs n * unsigned_abs hi ≤ 16384 * 100_100_000 }
+    ensures value { result ≡ int_max (n *ℤ lo) (n *ℤ hi) }
+    ensures most { unsigned_abs result ≤ 16384 * 100_100_000 }
+{
+    (n * lo).max(n * hi)
+}
+
+/// The greatest dot product of `n` with a point of the box.
+fn greatest_dot(n: Vec3, span: Span3) -> i64
+    requires { CanBound n span }
+    ensures value { result ≡ greatest_dot n span }
+    ensures most { unsigned_abs result ≤ 3 * (16384 * 100_100_000) }
+{
+    greater_product(n.x, span.lo.x, span.hi.x)
+        + greater_product(n.y, span.lo.y, span.hi.y)
+        + greater_product(n.z, span.lo.z, span.hi.z)
+}
+
+/// A bound of `cos16(n, b)` in 1/65536 for each `b` of the box whose squared length is at least `least`. With N the
+/// greatest dot product of `n` with a point of the box, it is 0 where N is not positive, else 65536 where `least` is 0,
+/// else the greatest k up to 65536 with `k^2 * (n.n) * least <= 2^32 * N^2`. The components of one of `n` and the box
+/// are at most 16384 and those of the other at most 100,100,000, and `least` is at most the greatest squared length
+/// that these allow.
+pub fn cos_top(n: Vec3, span: Span3, least: u128) -> u32
+    requires n { CanBound n span }
+    requires least { least ≤ 3 * (100_100_000 * 100_100_000) }
+    ensures value { result ≡ cos_top n span least }
+    ensures most { result ≤ 65536 }
+    ensures bounds { BoundsCosines n span least result }
+{
+    cosine_at_most(greatest_dot(n, span), short_square(n) as u128 * least)
 }

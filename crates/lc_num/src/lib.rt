@@ -16,7 +16,7 @@ mod steps;
 mod texts;
 mod vectors;
 
-pub use boxes::Span3;
+pub use boxes::{Span3, cos_top, near2};
 pub use channels::{Colour, Power, Rgb};
 pub use cosines::cos16;
 pub use differences::difference;

@@ -1,5 +1,5 @@
 // Vectors of a given length.
-ghost use Rattle.std.specs.Prelude.{◌≡◌, ◌^◌, ◌*◌, ◌/◌, ◌<◌, ◌≤◌, ◌*ℤ◌, pos, unsigned_abs, IsTrue};
+ghost use Rattle.std.specs.Prelude.{◌≡◌, ◌^◌, ◌*◌, ◌/◌, ◌<◌, ◌≤◌, ◌↔◌, ◌*ℤ◌, pos, unsigned_abs, IsTrue};
 ghost use Rattle.std.specs.Int.RustNames.{int_div};
 ghost use Rattle.lc_num.specs.Roots.{isqrt};
 ghost use Rattle.lc_num.specs.Vectors.{Within, square};
@@ -13,7 +13,7 @@ const SHORT: u64 = 1 << 30;
 
 /// Whether each component is at most 2^30 in absolute value.
 fn is_short(v: Vec3) -> bool
-    ensures { IsTrue result → Within (2 ^ 30) v }
+    ensures { IsTrue result ↔ Within (2 ^ 30) v }
 {
     v.x.unsigned_abs() <= SHORT && v.y.unsigned_abs() <= SHORT && v.z.unsigned_abs() <= SHORT
 }

@@ -177,3 +177,87 @@ fn two_steps<L: Ledger>(blank: Blank)
 fn steps() {
     two_steps::<Brand>(Blank::new(1));
 }
+
+#[test]
+fn boxes(rt: HostRuntime) {
+    let span = Span3 {
+        lo: Vec3 {
+            x: -1,
+            y: -1,
+            z: 10,
+        },
+        hi: Vec3 { x: 1, y: 1, z: 20 },
+    };
+    let middle = Vec3 { x: 0, y: 1, z: 15 };
+    let corner = Vec3 { x: 4, y: 3, z: 30 };
+    assert_eq!(rt; near2(middle, span), 0);
+    assert_eq!(rt; near2(corner, span), 9 + 4 + 100);
+    let far = 50_100_000;
+    let one_end = Vec3 {
+        x: far,
+        y: far,
+        z: far,
+    };
+    let other_end = Vec3 {
+        x: -far,
+        y: -far,
+        z: -far,
+    };
+    let farthest = Span3 {
+        lo: other_end,
+        hi: other_end,
+    };
+    assert_eq!(rt; near2(one_end, farthest), 3 * 100_200_000 * 100_200_000);
+}
+
+#[test]
+fn cosine_bounds(rt: HostRuntime) {
+    let span = Span3 {
+        lo: Vec3 {
+            x: -1,
+            y: -1,
+            z: 10,
+        },
+        hi: Vec3 { x: 1, y: 1, z: 20 },
+    };
+    let up = Vec3 {
+        x: 0,
+        y: 0,
+        z: 16384,
+    };
+    let down = Vec3 { x: 0, y: 0, z: -1 };
+    let aside = Vec3 { x: 1, y: 0, z: 0 };
+    // 1 / sqrt(100), and 1 / sqrt(102) in 1/65536.
+    assert_eq!(rt; cos_top(aside, span, 100), 6553);
+    assert_eq!(rt; cos_top(aside, span, 102), 6489);
+    assert_eq!(rt; cos_top(up, span, 100), 65536);
+    assert_eq!(rt; cos_top(up, span, 0), 65536);
+    assert_eq!(rt; cos_top(down, span, 0), 0);
+    // A long normal, where the products pass 128 bits: 3 / sqrt(9 * 10^16).
+    let long = Vec3 {
+        x: 100_000_000,
+        y: 0,
+        z: 0,
+    };
+    let short = Span3 {
+        lo: Vec3 { x: 1, y: 0, z: 0 },
+        hi: Vec3 { x: 3, y: 0, z: 0 },
+    };
+    assert_eq!(rt; cos_top(long, short, 9), 65536);
+    assert_eq!(rt; cos_top(long, short, 36), 32768);
+    assert_eq!(rt; cos_top(long, short, 30_000_000_000_000_000), 0);
+    let wide = Span3 {
+        lo: Vec3 {
+            x: 16384,
+            y: 0,
+            z: 0,
+        },
+        hi: Vec3 {
+            x: 16384,
+            y: 0,
+            z: 0,
+        },
+    };
+    // 2^32 * 2^28 / 10^16 is 115 and a part.
+    assert_eq!(rt; cos_top(long, wide, 10_000_000_000_000_000), 10);
+}

@@ -1,0 +1,11 @@
+pub use Rattle.lc_num.specs.Vectors
+pub use Rattle.lc_num.specs.Boxes
+pub use Rattle.lc_terms.specs.Spot
+pub use Rattle.lc_terms.specs.Kind
+pub use Rattle.lc_light.specs.Lights
+pub mod Hull
+pub mod Reach
+pub mod Omni
+pub mod HullLaws
+pub mod ReachLaws
+pub mod OmniLaws

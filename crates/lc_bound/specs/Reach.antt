@@ -1,0 +1,18 @@
+-- Terms of a factor, and bounds of them over a box.
+use Rattle.std.specs.Prelude.{ℕ, ◌*◌, ◌/◌, ◌^◌, max}
+use Rattle.lc_num.specs.Boxes.{Ends, cos_top}
+use Rattle.lc_num.specs.declared.channels.Rgb.{Rgb}
+use Rattle.lc_terms.specs.declared.spot.Spot.{Spot}
+
+-- the geometric term at a squared distance, which it takes for at least a hundredth squared
+abbrev pub falloff : ℕ → ℕ
+falloff square = 10 ^ 17 / max square (10 ^ 4)
+
+-- a bound of the material term of a matte spot for light from the vectors of the box whose squared length is at least
+-- `least`
+abbrev pub material_top : Spot → Ends → ℕ → Rgb
+material_top spot box least = record {
+  r = spot.kd.r * cos_top spot.n box least;
+  g = spot.kd.g * cos_top spot.n box least;
+  b = spot.kd.b * cos_top spot.n box least;
+}

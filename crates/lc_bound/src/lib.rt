@@ -1,0 +1,11 @@
+//! The kinds of light, the clumps that stand for many lights of a kind, and bounds of what a clump gives to a spot.
+#![tactic(auto)]
+
+mod hull;
+mod omni;
+mod reach;
+
+pub use omni::{OmniClump, OmniKind};
+
+#[cfg(test)]
+mod tests;

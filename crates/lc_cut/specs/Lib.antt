@@ -1,5 +1,6 @@
-pub mod Spot
 pub mod Contribution
-pub use Rattle.lc_num.specs.Vectors
 pub use Rattle.lc_num.specs.Channels
 pub use Rattle.lc_light.specs.Lights
+pub use Rattle.lc_terms.specs.Spot
+pub use Rattle.lc_terms.specs.Kind
+pub use Rattle.lc_bound.specs.Omni

@@ -1,9 +1,10 @@
 ghost use Rattle.std.specs.Prelude.{◌≡◌, ◌<◌, ◌≤◌, length, All};
 ghost use Rattle.lc_light.specs.Lights.{IsOmni};
 
-use crate::{Answer, Spot, sum_all};
+use crate::{Answer, sum_all};
 use lc_light::{LightStop, Omni, read_lights};
 use lc_num::{Colour, List, Rgb, Steps, Vec3};
+use lc_terms::Spot;
 use std::marker::Brand;
 use std::sync::ledger::{Blank, Ledger};
 

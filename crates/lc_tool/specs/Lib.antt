@@ -17,7 +17,9 @@ pub use Rattle.lc_desk.specs.Causes
 pub use Rattle.lc_light.specs.Lights
 pub use Rattle.lc_light.specs.LightFile
 pub use Rattle.lc_light.specs.Numbers
-pub use Rattle.lc_cut.specs.Spot
+pub use Rattle.lc_terms.specs.Spot
+pub use Rattle.lc_terms.specs.Kind
+pub use Rattle.lc_bound.specs.Omni
 pub use Rattle.lc_cut.specs.Contribution
 pub mod Meant
 pub mod Settled

@@ -8,8 +8,9 @@ use Rattle.lc_num.specs.declared.vectors.Vec3.{Vec3}
 use Rattle.lc_desk.specs.Desk.{Files}
 use Rattle.lc_light.specs.LightFile.{fault_in, lights}
 use Rattle.lc_light.specs.declared.lights.Lights.{Lights}
+use Rattle.lc_bound.specs.Omni.{omni_meaning}
 use Rattle.lc_cut.specs.Contribution.{plain}
-use Rattle.lc_cut.specs.declared.spot.Spot.{Spot}
+use Rattle.lc_terms.specs.declared.spot.Spot.{Spot}
 use Rattle.lc_cut.specs.declared.answer.Answer.{Answer}
 use Rattle.lc_tool.specs.declared.status.Source.{Source}
 use Rattle.lc_tool.specs.declared.status.Source.TheVariants as source
@@ -58,7 +59,7 @@ abbrev pub probe_answer : Vec3 → Vec3 → Lights → Answer
 probe_answer place direction lights = record {
   size = length lights.omni;
   evals = length lights.omni;
-  est = plain (probe_spot place direction) lights.omni;
+  est = plain omni_meaning (probe_spot place direction) lights.omni;
   bound = black;
 }
 

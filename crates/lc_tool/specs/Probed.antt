@@ -4,6 +4,7 @@ use Rattle.lc_num.specs.Channels.{black}
 use Rattle.lc_num.specs.declared.vectors.Vec3.{Vec3}
 use Rattle.lc_desk.specs.Desk.{DeskState, Files, appended}
 use Rattle.lc_light.specs.LightFile.{fault_in, lights}
+use Rattle.lc_bound.specs.Omni.{omni_meaning}
 use Rattle.lc_cut.specs.Contribution.{plain}
 use Rattle.lc_cut.specs.declared.answer.Answer.{Answer}
 use Rattle.lc_tool.specs.Lines.{record_line}
@@ -20,7 +21,7 @@ pub record ProbeRecorded (name : List ℕ) (place direction : Vec3) (files : Fil
   pub recorded : now.slots ≡ record before.slots { report = appended (record_line answer) before.slots.report }
   pub size : answer.size ≡ length (lights text 0).omni
   pub evals : answer.evals ≡ length (lights text 0).omni
-  pub est : answer.est ≡ plain (probe_spot place direction) (lights text 0).omni
+  pub est : answer.est ≡ plain omni_meaning (probe_spot place direction) (lights text 0).omni
   pub bound : answer.bound ≡ black
   pub counted : steps_now ≡ steps_before + answer.evals
 

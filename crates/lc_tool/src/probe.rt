@@ -2,7 +2,7 @@
 ghost use Rattle.std.specs.Prelude.{◌≡◌, ◌+◌, ◌≤◌, length, IfSome, IfOk, Ok};
 ghost use Rattle.lc_num.specs.Vectors.{Within};
 ghost use Rattle.lc_light.specs.Lights.{AreLights};
-ghost use Rattle.lc_cut.specs.Spot.{IsSpot, IsMatte};
+ghost use Rattle.lc_terms.specs.Spot.{IsSpot, IsMatte};
 ghost use Rattle.lc_tool.specs.Course.{at_once};
 ghost use Rattle.lc_tool.specs.Outcome.{probe_spot, probe_answer, probe_course, report_of, IsReportOnly};
 ghost use Rattle.lc_tool.specs.Ends.{Ends, Counts};
@@ -11,10 +11,11 @@ use crate::read::read_light_file;
 use crate::record_line::record_line;
 use crate::status::Status;
 use crate::write::{put_report, settle};
-use lc_cut::{Answer, Spot, sum_all};
+use lc_cut::{Answer, sum_all};
 use lc_desk::Desk;
 use lc_light::Lights;
 use lc_num::{Colour, Steps, Vec3, scaled};
+use lc_terms::Spot;
 use std::alloc::Global;
 use std::sync::ledger::Ledger;
 

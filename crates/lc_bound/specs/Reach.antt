@@ -4,7 +4,7 @@ use Rattle.lc_num.specs.Boxes.{Ends, cos_top}
 use Rattle.lc_num.specs.declared.channels.Rgb.{Rgb}
 use Rattle.lc_terms.specs.declared.spot.Spot.{Spot}
 
--- the geometric term at a squared distance, which it takes for at least a hundredth squared
+-- the geometric term at a squared distance; a distance below a hundredth counts as a hundredth
 abbrev pub falloff : ℕ → ℕ
 falloff square = 10 ^ 17 / max square (10 ^ 4)
 

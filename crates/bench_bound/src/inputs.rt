@@ -1,0 +1,135 @@
+// Spots and clumps of lights, from a seed.
+ghost use Rattle.std.specs.Prelude.{◌≤◌, unsigned_abs};
+ghost use Rattle.lc_num.specs.Vectors.{Within};
+ghost use Rattle.lc_num.specs.Channels.{IsColourWithin, IsPowerWithin};
+ghost use Rattle.lc_terms.specs.Spot.{IsMatte, IsSpot};
+ghost use Rattle.lc_bound.specs.Omni.{IsClump};
+
+use lc_bound::{OmniClump, OmniKind};
+use lc_light::Omni;
+use lc_num::{Colour, List, Memory, Power, Vec3, difference};
+use lc_terms::{Kind, Spot};
+use std::alloc::Global;
+
+/// How many inputs there are.
+pub const COUNT: u32 = 1024;
+
+const ORIGIN: Vec3 = Vec3 { x: 0, y: 0, z: 0 };
+
+/// Numbers that look random, by shifts.
+#[derive(Drop)]
+pub struct Random {
+    state: u64,
+}
+
+impl Random {
+    pub fn new() -> Random {
+        Random {
+            state: 0x9e37_79b9_7f4a_7c15,
+        }
+    }
+
+    /// A number from 0 to `most`.
+    fn number(&mut self, most: u32) -> u32
+        ensures { result ≤ most }
+    {
+        self.state ^= self.state << 13;
+        self.state ^= self.state >> 7;
+        self.state ^= self.state << 17;
+        (self.state % (most as u64 + 1)) as u32
+    }
+
+    fn coordinate(&mut self, most: u32) -> i64
+        ensures { unsigned_abs result ≤ most }
+    {
+        self.number(most) as i64
+    }
+
+    /// A vector of the octant in which no component is negative.
+    fn vector(&mut self, most: u32) -> Vec3
+        ensures { Within most result }
+    {
+        let x = self.coordinate(most);
+        let y = self.coordinate(most);
+        let z = self.coordinate(most);
+        Vec3 { x, y, z }
+    }
+
+    fn colour(&mut self) -> Colour
+        ensures { IsColourWithin 10_000 result }
+    {
+        let r = self.number(10_000);
+        let g = self.number(10_000);
+        let b = self.number(10_000);
+        Colour { r, g, b }
+    }
+
+    fn power(&mut self) -> Power
+        ensures { IsPowerWithin 100_000_000 result }
+    {
+        let r = self.number(100_000_000) as u64;
+        let g = self.number(100_000_000) as u64;
+        let b = self.number(100_000_000) as u64;
+        Power { r, g, b }
+    }
+
+    /// A matte spot of the octant in which no coordinate is positive, whose normal has no negative component.
+    fn spot(&mut self) -> Spot
+        ensures spot { IsSpot result }
+        ensures matte { IsMatte result }
+    {
+        let place = self.vector(50_000_000);
+        let n = self.vector(16384);
+        let kd = self.colour();
+        Spot {
+            x: difference(ORIGIN, place),
+            n,
+            r: ORIGIN,
+            kd,
+            ks: Colour { r: 0, g: 0, b: 0 },
+            ns: 0,
+        }
+    }
+
+    /// The clump of two lights that are at most 100 apart on each axis.
+    fn clump(&mut self) -> OmniClump
+        ensures { IsClump result }
+    {
+        let place = self.vector(49_000_000);
+        let apart = self.vector(1_000_000);
+        let power = self.power();
+        pair(place, difference(place, apart), power)
+    }
+}
+
+/// The clump of two lights of one intensity.
+fn pair(a: Vec3, b: Vec3, power: Power) -> OmniClump
+    requires a { Within 50_000_000 a }
+    requires b { Within 50_000_000 b }
+    requires power { IsPowerWithin 100_000_000 power }
+    ensures { IsClump result }
+{
+    let first = OmniKind::one(&Omni { place: a, power });
+    let second = OmniKind::one(&Omni { place: b, power });
+    OmniKind::join(&first, &second)
+}
+
+/// A spot and a clump that is bounded there.
+#[derive(Clone, Copy)]
+pub struct Case {
+    pub spot: Spot,
+    pub clump: OmniClump,
+    ghost is_spot: { IsSpot spot },
+    ghost matte: { IsMatte spot },
+    ghost is_clump: { IsClump clump },
+}
+
+pub fn cases(alloc: Global, random: &mut Random) -> Result<List<Case>, Memory> {
+    let mut list = List::new(alloc);
+    for _ in 0..COUNT {
+        let spot = random.spot();
+        let clump = random.clump();
+        list.push(Case { spot, clump })?;
+    }
+    Ok(list)
+}

@@ -1,0 +1,50 @@
+//! Bounds what seeded clumps of lights give to seeded spots, and prints a checksum of the bounds.
+//!
+//! The arguments are the number of rounds over the inputs and, for the nanoseconds that they took, the word `time`.
+#![tactic(auto)]
+
+mod inputs;
+mod rounds;
+
+use crate::inputs::Random;
+use anyhow::Result;
+use std::env;
+use std::time::Instant;
+
+/// What the arguments ask for.
+#[derive(Clone, Copy)]
+struct Order {
+    rounds: u32,
+    timed: bool,
+}
+
+fn read_order(rt: &HostRuntime) -> Result<Order> {
+    let mut order = Order {
+        rounds: 2,
+        timed: false,
+    };
+    for word in env::args(rt)?.skip(1) {
+        if word.as_str() == "time" {
+            order.timed = true;
+        } else if let Ok(rounds) = word.as_str().parse::<u32>() {
+            order.rounds = rounds;
+        }
+    }
+    Ok(order)
+}
+
+fn main(rt: HostRuntime) -> Result<()> {
+    let order = read_order(&rt)?;
+    let mut random = Random::new();
+    let cases = inputs::cases(rt.alloc(), &mut random)?;
+
+    let start = Instant::now(&rt)?;
+    let sum = rounds::tops(order.rounds, cases.as_slice());
+    if order.timed {
+        let nanoseconds = start.elapsed(&rt)?.as_nanos();
+        println!(rt; "top {sum} {nanoseconds}")?;
+    } else {
+        println!(rt; "top {sum}")?;
+    }
+    Ok(())
+}

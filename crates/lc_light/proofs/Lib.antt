@@ -4,3 +4,4 @@ pub mod FieldLemmas
 pub mod LineLemmas
 pub mod LightLemmas
 pub mod ReadLemmas
+pub mod ValidLights

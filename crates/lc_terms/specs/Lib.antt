@@ -5,3 +5,4 @@ pub mod Spot
 pub mod Channels
 pub mod Factor
 pub mod Kind
+pub mod Lamps

@@ -1,5 +1,5 @@
 -- Spots within their ranges.
-use Rattle.std.specs.Prelude.{◌≡◌, ◌≤◌}
+use Rattle.std.specs.Prelude.{◌≤◌}
 use Rattle.lc_num.specs.Vectors.{Within}
 use Rattle.lc_num.specs.Channels.{IsColourWithin}
 use Rattle.lc_terms.specs.declared.spot.Spot.{Spot}

@@ -8,3 +8,6 @@ mod spot;
 pub use factor::{eval, material};
 pub use kind::Kind;
 pub use spot::Spot;
+
+#[cfg(test)]
+mod tests;

@@ -1,0 +1,10 @@
+pub mod CutSums
+pub mod CutSequence
+pub mod CutLimits
+pub mod CutOrder
+pub mod NodeFinding
+pub mod RateSums
+pub mod NodeSteps
+pub mod Refining
+pub mod Starting
+pub mod Looping

@@ -1,0 +1,4 @@
+pub mod Rated
+pub mod Cuts
+pub mod Nodes
+pub mod Tables

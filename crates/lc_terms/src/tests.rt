@@ -1,0 +1,147 @@
+// The material term by hand, and the factor of a light through the trait.
+ghost use Rattle.std.specs.Prelude.{◌≡◌, ◌<◌, ◌≤◌};
+ghost use Rattle.lc_terms.specs.Lamps.{lamp_laws, lamp_meaning};
+ghost use Rattle.lc_terms.specs.Spot.{IsMatte, IsSpot};
+
+use super::*;
+use lc_num::{Colour, Power, Rgb, Steps, Vec3};
+use std::marker::Brand;
+use std::sync::ledger::{Blank, Ledger};
+use std::test::*;
+
+/// Lamps that give no light.
+struct Dark;
+
+impl Kind for Dark {
+    type Light = (Vec3, Power);
+
+    type Clump = (Power, u32);
+
+    ghost meaning = { lamp_meaning };
+
+    ghost laws = { lamp_laws };
+
+    fn place(light: &(Vec3, Power)) -> Vec3 {
+        light.0
+    }
+
+    fn power(light: &(Vec3, Power)) -> Power {
+        light.1
+    }
+
+    fn toward(_x: Vec3, _light: &(Vec3, Power)) -> Vec3 {
+        Vec3 { x: 0, y: 0, z: 0 }
+    }
+
+    fn target(_x: Vec3, _light: &(Vec3, Power)) -> Vec3 {
+        Vec3 { x: 0, y: 0, z: 0 }
+    }
+
+    fn geometry(_x: Vec3, _light: &(Vec3, Power)) -> u64 {
+        0
+    }
+
+    fn one(light: &(Vec3, Power)) -> (Power, u32) {
+        (light.1, 1)
+    }
+
+    fn join(a: &(Power, u32), b: &(Power, u32)) -> (Power, u32) {
+        let total = Power {
+            r: a.0.r + b.0.r,
+            g: a.0.g + b.0.g,
+            b: a.0.b + b.0.b,
+        };
+        (total, a.1 + b.1)
+    }
+
+    fn total(clump: &(Power, u32)) -> Power {
+        clump.0
+    }
+
+    fn top(_spot: &Spot, _clump: &(Power, u32)) -> Rgb {
+        Rgb { r: 0, g: 0, b: 0 }
+    }
+}
+
+fn spot() -> Spot
+    ensures spot { IsSpot result }
+    ensures matte { IsMatte result }
+{
+    Spot {
+        x: Vec3 { x: 0, y: 0, z: 0 },
+        n: Vec3 {
+            x: 0,
+            y: 0,
+            z: 16384,
+        },
+        r: Vec3 {
+            x: 16384,
+            y: 0,
+            z: 0,
+        },
+        kd: Colour {
+            r: 10000,
+            g: 5000,
+            b: 0,
+        },
+        ks: Colour { r: 0, g: 0, b: 0 },
+        ns: 1,
+    }
+}
+
+#[test]
+fn materials(rt: HostRuntime) {
+    // Straight above the cosine is 1, level with the surface and below it 0, and at 3, 4, 5 it is 4/5 rounded down.
+    let above = Vec3 {
+        x: 0,
+        y: 0,
+        z: 10000,
+    };
+    let level = Vec3 { x: 7, y: 0, z: 0 };
+    let below = Vec3 { x: 0, y: 0, z: -1 };
+    let slanted = Vec3 { x: 3, y: 0, z: 4 };
+    let black = Rgb { r: 0, g: 0, b: 0 };
+    assert_eq!(rt;
+        material(&spot(), above),
+        Rgb {
+            r: 655_360_000,
+            g: 327_680_000,
+            b: 0
+        }
+    );
+    assert_eq!(rt; material(&spot(), level), black);
+    assert_eq!(rt; material(&spot(), below), black);
+    assert_eq!(rt;
+        material(&spot(), slanted),
+        Rgb {
+            r: 524_280_000,
+            g: 262_140_000,
+            b: 0
+        }
+    );
+}
+
+fn factor_of_dark<L: Ledger>(blank: Blank) -> Rgb
+    requires name { blank.name ≡ L.name }
+    requires parts { blank.parts ≡ L.parts }
+    requires some { 0 < L.parts }
+{
+    let mut steps = Steps::<L>::start(blank);
+    let lamp = (
+        Vec3 { x: 1, y: 2, z: 3 },
+        Power {
+            r: 10000,
+            g: 10000,
+            b: 10000,
+        },
+    );
+    eval::<Dark, L>(&spot(), &lamp, &mut steps)
+}
+
+#[test]
+fn factors(rt: HostRuntime) {
+    assert_eq!(rt;
+        factor_of_dark::<Brand>(Blank::new(1)),
+        Rgb { r: 0, g: 0, b: 0 }
+    );
+}

@@ -1,0 +1,104 @@
+// The tree over three lights, worked out by hand, and the tree over none.
+ghost use Rattle.std.specs.Prelude.{◌≡◌, ◌≤◌, ◌^◌, All, length, pos};
+ghost use Rattle.lc_num.specs.Vectors.{Within};
+ghost use Rattle.lc_terms.specs.Lamps.{lamp_laws, lamp_meaning, IsLamp};
+
+use super::*;
+use lc_num::{Memory, Power, Rgb, Vec3};
+use lc_terms::{Kind, Spot};
+use std::test::*;
+
+/// Lamps that give no light.
+struct Dark;
+
+impl Kind for Dark {
+    type Light = (Vec3, Power);
+
+    type Clump = (Power, u32);
+
+    ghost meaning = { lamp_meaning };
+
+    ghost laws = { lamp_laws };
+
+    fn place(light: &(Vec3, Power)) -> Vec3 {
+        light.0
+    }
+
+    fn power(light: &(Vec3, Power)) -> Power {
+        light.1
+    }
+
+    fn toward(_x: Vec3, _light: &(Vec3, Power)) -> Vec3 {
+        Vec3 { x: 0, y: 0, z: 0 }
+    }
+
+    fn target(_x: Vec3, _light: &(Vec3, Power)) -> Vec3 {
+        Vec3 { x: 0, y: 0, z: 0 }
+    }
+
+    fn geometry(_x: Vec3, _light: &(Vec3, Power)) -> u64 {
+        0
+    }
+
+    fn one(light: &(Vec3, Power)) -> (Power, u32) {
+        (light.1, 1)
+    }
+
+    fn join(a: &(Power, u32), b: &(Power, u32)) -> (Power, u32) {
+        let total = Power {
+            r: a.0.r + b.0.r,
+            g: a.0.g + b.0.g,
+            b: a.0.b + b.0.b,
+        };
+        (total, a.1 + b.1)
+    }
+
+    fn total(clump: &(Power, u32)) -> Power {
+        clump.0
+    }
+
+    fn top(_spot: &Spot, _clump: &(Power, u32)) -> Rgb {
+        Rgb { r: 0, g: 0, b: 0 }
+    }
+}
+
+/// A lamp on the x axis, of one intensity in each channel.
+fn lamp(x: i64, power: u64) -> (Vec3, Power)
+    requires place { Within 50_000_000 (record { x = x; y = pos 0; z = pos 0 }) }
+    requires power { power ≤ 10 ^ 8 }
+    ensures { IsLamp result }
+{
+    (
+        Vec3 { x, y: 0, z: 0 },
+        Power {
+            r: power,
+            g: power,
+            b: power,
+        },
+    )
+}
+
+#[test]
+fn three_lamps(rt: HostRuntime) -> Result<(), Fail> {
+    let lamps = [lamp(20000, 0), lamp(0, 0), lamp(10000, 10000)];
+    let tree = Tree::<Dark>::build(rt.alloc(), &lamps, 7, 0)?;
+    assert_eq!(rt; tree.count(), 5);
+    let kids = [Some((1, 2)), None, Some((3, 4)), None, None];
+    let leaders = [2, 1, 2, 2, 0];
+    let weights = [30000, 0, 30000, 30000, 0];
+    for node in 0..5 {
+        if node < tree.count() {
+            assert_eq!(rt; tree.kids(node), kids[node as usize], "at {node}");
+            assert_eq!(rt; tree.leader(node), leaders[node as usize], "at {node}");
+            assert_eq!(rt; tree.weight(node), weights[node as usize], "at {node}");
+        }
+    }
+    Ok(())
+}
+
+#[test]
+fn no_lamps(rt: HostRuntime) -> Result<(), Fail> {
+    let tree = Tree::<Dark>::build(rt.alloc(), &[], 7, 0)?;
+    assert_eq!(rt; tree.count(), 0);
+    Ok(())
+}

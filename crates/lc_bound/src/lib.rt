@@ -6,6 +6,3 @@ mod omni;
 mod reach;
 
 pub use omni::{OmniClump, OmniKind};
-
-#[cfg(test)]
-mod tests;

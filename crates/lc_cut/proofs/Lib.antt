@@ -1,1 +1,3 @@
-pub mod SumLemmas
+pub mod RatingLaws
+pub mod Rooted
+pub mod Whole

@@ -1,6 +1,10 @@
 pub mod Contribution
+pub mod Rating
 pub use Rattle.lc_num.specs.Channels
 pub use Rattle.lc_light.specs.Lights
 pub use Rattle.lc_terms.specs.Spot
 pub use Rattle.lc_terms.specs.Kind
 pub use Rattle.lc_bound.specs.Omni
+pub use Rattle.lc_tree.specs.Node
+pub use Rattle.lc_tree.specs.Rows
+pub use Rattle.lc_rated.specs.Cuts

@@ -1,11 +1,14 @@
-//! The light at a spot.
+//! The light at a spot, by the best-first cut of light trees.
 #![tactic(auto)]
 
-mod answer;
-mod sum;
+mod forest;
+mod laws;
+mod node;
+mod rating;
 
-pub use answer::Answer;
-pub use sum::sum_all;
+pub use forest::{Ask, Forest, cut};
+pub use laws::distance_to_all_lights;
+pub use lc_rated::{Answer, Bench};
 
 #[cfg(test)]
 mod tests;

@@ -1,3 +1,4 @@
+pub mod Proper
 pub mod Keeps
 pub mod Noting
 pub mod Courses
@@ -5,3 +6,4 @@ pub mod Stopping
 pub mod Ending
 pub mod Running
 pub mod Recording
+pub mod Probing

@@ -20,6 +20,12 @@ pub use Rattle.lc_light.specs.Numbers
 pub use Rattle.lc_terms.specs.Spot
 pub use Rattle.lc_terms.specs.Kind
 pub use Rattle.lc_bound.specs.Omni
+pub use Rattle.lc_tree.specs.Node
+pub use Rattle.lc_tree.specs.Build
+pub use Rattle.lc_tree.specs.Words as StreamWords
+pub use Rattle.lc_rated.specs.Rated
+pub use Rattle.lc_rated.specs.Cuts
 pub use Rattle.lc_cut.specs.Contribution
+pub use Rattle.lc_cut.specs.Rating
 pub mod Meant
 pub mod Settled

@@ -2,7 +2,7 @@
 use Rattle.std.specs.Prelude.{ℕ, List, ◌++◌, codes, decimal}
 use Rattle.lc_desk.specs.declared.desk.Slot.{Slot}
 use Rattle.lc_desk.specs.declared.desk.Slot.TheVariants.{Picture, Bounds, Report, Note}
-use Rattle.lc_cut.specs.declared.answer.Answer.{Answer}
+use Rattle.lc_rated.specs.declared.answer.Answer.{Answer}
 
 -- ---- Note
 

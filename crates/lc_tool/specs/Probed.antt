@@ -1,28 +1,30 @@
 -- What `probe` has recorded where it is done.
-use Rattle.std.specs.Prelude.{◌≡◌, ◌+◌, ℕ, List, length, Option, Some, None, IfSome}
-use Rattle.lc_num.specs.Channels.{black}
+use Rattle.std.specs.Prelude.{◌≡◌, ◌+◌, ◌*◌, ◌≤◌, ◌⊎◌, ℕ, List, Option, Some, None, IfSome}
 use Rattle.lc_num.specs.declared.vectors.Vec3.{Vec3}
 use Rattle.lc_desk.specs.Desk.{DeskState, Files, appended}
 use Rattle.lc_light.specs.LightFile.{fault_in, lights}
 use Rattle.lc_bound.specs.Omni.{omni_meaning}
 use Rattle.lc_cut.specs.Contribution.{plain}
-use Rattle.lc_cut.specs.declared.answer.Answer.{Answer}
+use Rattle.lc_rated.specs.declared.answer.Answer.{Answer}
+use Rattle.lc_rated.specs.Cuts.{IsNear, IsFraction}
 use Rattle.lc_tool.specs.Lines.{record_line}
-use Rattle.lc_tool.specs.Outcome.{probe_spot}
+use Rattle.lc_tool.specs.Outcome.{probe_spot, probe_size, probe_permille, probe_answer}
 use Rattle.lc_tool.specs.Words.{Command, probe, command_of}
 
--- Report has gained one line, and each other slot is as it was. The line's size and evaluations are the number of
--- the file's lights, its estimate is the sum of their contributions, its bounds are 0. The counter rose by the evaluations
+-- Report has gained one line, and each other slot is as it was. The line is the answer of the chosen cut. Its estimate
+-- differs from the sum over all lights of the file by at most its bound, and its bound is within the permille of the
+-- estimate unless the cut has the greatest size. The counter rose by the evaluations, at most twice that size
 pub record ProbeRecorded (name : List ℕ) (place direction : Vec3) (files : Files) (before now : DeskState) (steps_before steps_now : ℕ) : Type 0 where
   pub text : List ℕ
   pub read : files name ≡ Some text
   pub right : fault_in text ≡ None
   pub answer : Answer
   pub recorded : now.slots ≡ record before.slots { report = appended (record_line answer) before.slots.report }
-  pub size : answer.size ≡ length (lights text 0).omni
-  pub evals : answer.evals ≡ length (lights text 0).omni
-  pub est : answer.est ≡ plain omni_meaning (probe_spot place direction) (lights text 0).omni
-  pub bound : answer.bound ≡ black
+  pub cut : answer ≡ probe_answer place direction (lights text 0)
+  pub near : IsNear (plain omni_meaning (probe_spot place direction) (lights text 0).omni) answer
+  pub fraction : (answer.size ≡ probe_size) ⊎ IsFraction probe_permille answer
+  pub size : answer.size ≤ probe_size
+  pub evals : answer.evals ≤ 2 * probe_size
   pub counted : steps_now ≡ steps_before + answer.evals
 
 abbrev pub Recorded : Option Command → Files → DeskState → DeskState → ℕ → ℕ → Type 0

@@ -1,21 +1,24 @@
 // The command `probe`.
-ghost use Rattle.std.specs.Prelude.{◌≡◌, ◌+◌, ◌≤◌, length, IfSome, IfOk, Ok};
+ghost use Rattle.std.specs.Prelude.{◌≡◌, ◌+◌, ◌≤◌, IfSome, IfOk, Ok};
 ghost use Rattle.lc_num.specs.Vectors.{Within};
 ghost use Rattle.lc_light.specs.Lights.{AreLights};
 ghost use Rattle.lc_terms.specs.Spot.{IsSpot, IsMatte};
 ghost use Rattle.lc_tool.specs.Course.{at_once};
-ghost use Rattle.lc_tool.specs.Outcome.{probe_spot, probe_answer, probe_course, report_of, IsReportOnly};
+ghost use Rattle.lc_tool.specs.Outcome.{omni_tree, probe_spot, probe_answer, probe_course, report_of, IsReportOnly};
 ghost use Rattle.lc_tool.specs.Ends.{Ends, Counts};
 
+use crate::note::note_memory;
 use crate::read::read_light_file;
 use crate::record_line::record_line;
-use crate::status::Status;
+use crate::status::{Status, Stop};
 use crate::write::{put_report, settle};
-use lc_cut::{Answer, sum_all};
+use lc_bound::OmniKind;
+use lc_cut::{Answer, Ask, Bench, Forest, cut};
 use lc_desk::Desk;
 use lc_light::Lights;
-use lc_num::{Colour, Steps, Vec3, scaled};
+use lc_num::{Colour, Memory, Steps, Vec3, scaled};
 use lc_terms::Spot;
+use lc_tree::Tree;
 use std::alloc::Global;
 use std::sync::ledger::Ledger;
 
@@ -45,21 +48,38 @@ fn spot_at(place: Vec3, direction: Vec3) -> Spot
     }
 }
 
-/// The light of all lights at a spot.
+/// The trees of a file's lights.
+fn forest_of(alloc: Global, lights: &Lights) -> Result<Forest, Memory>
+    requires { AreLights lights.now }
+    ensures { IfOk result (λ forest. forest.omni ≡ omni_tree lights.now) }
+{
+    let omni = Tree::<OmniKind>::build(alloc, lights.omni.as_slice(), 0, 0)?;
+    Ok(Forest { omni })
+}
+
+const ASK: Ask = Ask {
+    permille: 20,
+    size: 1000,
+};
+
+/// The light of a file's lights at a spot.
 fn answer_at<L: Ledger>(
+    alloc: Global,
     place: Vec3,
     direction: Vec3,
     lights: &Lights,
     steps: &mut Steps<L>,
-) -> Answer
+) -> Result<Answer, Memory>
     requires place { Within 50_000_000 place }
     requires direction { Within 50_000_000 direction }
     requires lights { AreLights lights.now }
-    ensures value { result ≡ probe_answer place direction lights.now }
-    ensures steps { steps.new ≡ steps.old + length lights.now.omni }
+    ensures value { IfOk result (λ answer. answer ≡ probe_answer place direction lights.now) }
+    ensures steps { IfOk result (λ answer. steps.new ≡ steps.old + answer.evals) }
 {
+    let forest = forest_of(alloc, lights)?;
+    let mut bench = Bench::new(alloc, ASK.size)?;
     let spot = spot_at(place, direction);
-    sum_all(&lights.omni, &spot, steps)
+    Ok(cut(&mut bench, &forest, &spot, ASK, steps))
 }
 
 /// Puts the record line of an answer on Report.
@@ -85,11 +105,15 @@ pub fn probe<D: Desk, L: Ledger>(
     ensures ends { Ends result IsReportOnly (D.state desk.old).held (probe_course name.now place direction) (D.state desk.old) (D.state desk.new) }
     ensures counted { Counts result (D.state desk.old).held (probe_course name.now place direction) steps.old steps.new }
 {
-    match read_light_file(alloc, name, 0, desk) {
-        Ok(lights) => {
-            let answer = answer_at(place, direction, &lights, steps);
-            report(&answer, desk)
+    let lights = match read_light_file(alloc, name, 0, desk) {
+        Ok(lights) => lights,
+        Err(stop) => return Status::Stopped(stop),
+    };
+    match answer_at(alloc, place, direction, &lights, steps) {
+        Ok(answer) => report(&answer, desk),
+        Err(Memory) => {
+            note_memory(desk);
+            Status::Stopped(Stop::Memory)
         }
-        Err(stop) => Status::Stopped(stop),
     }
 }

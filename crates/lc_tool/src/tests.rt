@@ -53,7 +53,15 @@ fn answers_the_light_at_the_origin(rt: HostRuntime) -> Result<(), Fail> {
         ("# no light\n \t\r\n", "0 0 0 0 0 0 0 0\n"),
         (
             "point 0 0 2 1 2 3\npoint 0 0 2 0 0 0.0001\r\n",
-            "2 2 1638400000000000000000 3276800000000000000000 4915363840000000000000 0 0 0\n",
+            "2 3 1638400000000000000000 3276800000000000000000 4915363840000000000000 0 0 0\n",
+        ),
+        (
+            "point 0 0 1 1 1 1\npoint 0 0 1 1 1 1\n",
+            "2 3 13107200000000000000000 13107200000000000000000 13107200000000000000000 0 0 0\n",
+        ),
+        (
+            "point 1 0 1 1 1 1\npoint -1 0 -1 1 1 1\n",
+            "2 3 2317000000000000000000 2317000000000000000000 2317000000000000000000 0 0 0\n",
         ),
     ];
     for (text, line) in rows {
@@ -77,10 +85,7 @@ fn lines(alloc: Global, count: u32) -> Result<Vec<u8>, Memory> {
 fn takes_a_thousand_lights(rt: HostRuntime) -> Result<(), Fail> {
     let mut desk = desk_with(rt.alloc(), &lines(rt.alloc(), 1000)?)?;
     assert_eq!(rt; serve(rt.alloc(), &ORIGIN, &mut desk), 0);
-    assert_eq!(rt;
-        desk.told(Slot::Report),
-        b"1000 1000 0 0 0 0 0 0\n".as_slice()
-    );
+    assert_eq!(rt; desk.told(Slot::Report), b"1 1 0 0 0 0 0 0\n".as_slice());
     let mut desk = desk_with(rt.alloc(), &lines(rt.alloc(), 1001)?)?;
     assert_eq!(rt; serve(rt.alloc(), &ORIGIN, &mut desk), 6);
     assert_eq!(rt; desk.told(Slot::Report), b"".as_slice());

@@ -5,12 +5,13 @@ use Rattle.lc_tool.specs.Words.{command_of, texts}
 use Rattle.lc_tool.specs.Outcome.{course_of, status_of}
 use Rattle.lc_tool.specs.Ends.{HasLine}
 use Rattle.lc_tool.proofs.Running.{by_stop, by_failed, by_memory, run_line, run_unwritten, run_complete, faulty_more}
+use Rattle.lc_tool.proofs.Proper.{command_proper}
 use Rattle.lc_tool.proofs.Recording.{run_recorded}
 use Rattle.lc_tool.proofs.program.run.Goals as goal
 
 pub returns-clause-recorded : goal.returns-clause-recorded
 returns-clause-recorded g c = λ zero.
-    run_recorded (command_of (texts c.args.words.now)) c.attempt.result (g.D.Desk.state c.args.desk.now) (g.D.Desk.state c.attempt.new.desk) c.args.steps.now c.attempt.new.steps c.attempt.ensures.runs c.attempt.ensures.counted (sym c.code.ensures ∙ zero)
+    run_recorded (command_of (texts c.args.words.now)) c.attempt.result (g.D.Desk.state c.args.desk.now) (g.D.Desk.state c.attempt.new.desk) c.args.steps.now c.attempt.new.steps (command_proper (texts c.args.words.now)) c.attempt.ensures.runs c.attempt.ensures.counted (sym c.code.ensures ∙ zero)
 
 pub returns-clause-faulty : goal.returns-clause-faulty
 returns-clause-faulty g c = λ text e. by_stop _ c.attempt.result (Faulty text) _ _ c.attempt.ensures.runs (faulty_more text) (sym c.code.ensures ∙ e)

@@ -1,0 +1,48 @@
+-- The vectors of a command are within their range.
+use Rattle.std.proofs.Common.{◌≡◌, ℕ, ◌+◌, ◌≤◌, Bool, true, false, cond, List, Option, Some, None, ℤ, unsigned_abs, nat_lt, refl, arith}
+use Rattle.std.specs.Prelude.{IfSome, codes}
+use Rattle.std.proofs.lemmas.Bool.Decides.{nat_tests}
+use Rattle.lc_num.specs.Vectors.{Within}
+use Rattle.lc_num.specs.declared.vectors.Vec3.{Vec3}
+use Rattle.lc_light.specs.Numbers.{short_units}
+use Rattle.lc_tool.specs.Words.{Command, probe, in_range, coordinate, vector_of, probe_of, word_at, vector_at, begins, command_of}
+
+abbrev pub IsProper : Option Command → Type 0
+IsProper None = Unit {0}
+IsProper (Some (probe name place direction)) = Within 50_000_000 place × Within 50_000_000 direction
+
+abbrev Small : ℤ → Type 0
+Small z = unsigned_abs z ≤ 50_000_000
+
+chosen_small : (z : ℤ) (b : Bool) → nat_lt 50_000_000 (unsigned_abs z) ≡ b → IfSome (cond b None (Some z)) Small
+chosen_small z true e = tt
+chosen_small z false e = grind (arith, nat_tests)
+
+range_small : (o : Option ℤ) → IfSome (in_range o) Small
+range_small None = tt
+range_small (Some z) = chosen_small z (nat_lt 50_000_000 (unsigned_abs z)) refl
+
+vector_small : (x y z : Option ℤ) → IfSome x Small → IfSome y Small → IfSome z Small → IfSome (vector_of x y z) (Within 50_000_000)
+vector_small (Some x) (Some y) (Some z) a b c = record { x = a; y = b; z = c }
+vector_small None y z a b c = tt
+vector_small (Some x) None z a b c = tt
+vector_small (Some x) (Some y) None a b c = tt
+
+probe_proper : (name : List ℕ) (place direction : Option Vec3) → IfSome place (Within 50_000_000) → IfSome direction (Within 50_000_000) → IsProper (probe_of name place direction)
+probe_proper name (Some place) (Some direction) a b = (a, b)
+probe_proper name None direction a b = tt
+probe_proper name (Some place) None a b = tt
+
+chosen_proper : (b : Bool) (o : Option Command) → IsProper o → IsProper (cond b o None)
+chosen_proper true o h = h
+chosen_proper false o h = tt
+
+read_small : (words : List (List ℕ)) (k : ℕ) → IfSome (vector_at words k) (Within 50_000_000)
+read_small words k =
+    vector_small (coordinate (word_at words k)) (coordinate (word_at words (k + 1))) (coordinate (word_at words (k + 2)))
+    (range_small (short_units (word_at words k))) (range_small (short_units (word_at words (k + 1)))) (range_small (short_units (word_at words (k + 2))))
+
+pub command_proper : (words : List (List ℕ)) → IsProper (command_of words)
+command_proper words =
+    chosen_proper (begins words (codes "probe") 8) (probe_of (word_at words 1) (vector_at words 2) (vector_at words 5))
+    (probe_proper (word_at words 1) (vector_at words 2) (vector_at words 5) (read_small words 2) (read_small words 5))

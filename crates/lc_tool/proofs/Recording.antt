@@ -14,7 +14,7 @@ use Rattle.lc_terms.specs.Spot.{IsSpot}
 use Rattle.lc_terms.specs.declared.spot.Spot.{Spot}
 use Rattle.lc_bound.specs.Omni.{omni_meaning}
 use Rattle.lc_tree.specs.Node.{Kept}
-use Rattle.lc_tree.specs.Words.{stream_word}
+use Rattle.lc_words.specs.Words.{stream_word}
 use Rattle.lc_tree.proofs.Halving.{tree_of_is}
 use Rattle.lc_rated.proofs.CutSequence.{fraction, size_most, evals_most}
 use Rattle.lc_cut.specs.Rating.{trees_of}

@@ -22,7 +22,7 @@ pub use Rattle.lc_terms.specs.Kind
 pub use Rattle.lc_bound.specs.Omni
 pub use Rattle.lc_tree.specs.Node
 pub use Rattle.lc_tree.specs.Build
-pub use Rattle.lc_tree.specs.Words as StreamWords
+pub use Rattle.lc_words.specs.Words as StreamWords
 pub use Rattle.lc_rated.specs.Rated
 pub use Rattle.lc_rated.specs.Cuts
 pub use Rattle.lc_cut.specs.Contribution

@@ -11,7 +11,7 @@ use Rattle.lc_light.specs.declared.lights.Omni.{Omni}
 use Rattle.lc_bound.specs.Omni.{omni_meaning}
 use Rattle.lc_terms.specs.declared.spot.Spot.{Spot}
 use Rattle.lc_tree.specs.Node.{Kept}
-use Rattle.lc_tree.specs.Words.{stream_word}
+use Rattle.lc_words.specs.Words.{stream_word}
 use Rattle.lc_tree.specs.Build.{tree_of}
 use Rattle.lc_rated.specs.declared.answer.Answer.{Answer}
 use Rattle.lc_rated.specs.Cuts.{answer}

@@ -1,7 +1,6 @@
 pub use Rattle.lc_terms.specs.Kind
 pub mod Node
 pub mod Rows
-pub mod Words
 pub mod Build
 pub mod Cover
 pub mod Grown

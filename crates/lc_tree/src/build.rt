@@ -1,18 +1,17 @@
 // Building the rows of a tree.
 ghost use Rattle.std.specs.Prelude.{◌≡◌, ℕ, ◌+◌, ◌*◌, ◌-◌, ◌^◌, ◌<◌, ◌≤◌, List, All, length, map, take, IfOk, vec_len, if◌then◌else◌};
 ghost use Rattle.std.specs.List.{enumerate_from};
-ghost use Rattle.rand_pcg.specs.Lcg.{Lcg};
+ghost use Rattle.lc_words.specs.Lcg.{Lcg};
 ghost use Rattle.lc_tree.specs.Build.{halved, numbered, power_weight, takes_left, tree_of};
 ghost use Rattle.lc_tree.specs.Grown.{Grown, IsValid, StandsIn};
 ghost use Rattle.lc_tree.specs.Rows.{IsLaidIf, read_rows};
-ghost use Rattle.lc_tree.specs.Words.{after, stream_word, word_of};
+ghost use Rattle.lc_words.specs.Words.{after, stream_word, word_of};
 
 use crate::numbered::{Numbered, longest_axis, sort_along};
 use crate::row::Row;
 use lc_num::Memory;
 use lc_terms::Kind;
-use rand_core::utils::NextWord;
-use rand_pcg::Lcg64Xsh32;
+use lc_words::Stream;
 use std::alloc::Global;
 
 /// The lights with their numbers and places.
@@ -72,7 +71,7 @@ fn leading<K: Kind>(word: u32, left: &Row<K::Clump>, right: &Row<K::Clump>) -> u
 /// Adds the rows of the tree over some lights, and gives its root's row. It takes a word for each node.
 fn grow<K: Kind>(
     lights: &mut [Numbered<K::Light>],
-    words: &mut Lcg64Xsh32,
+    words: &mut Stream,
     rows: &mut Vec<Row<K::Clump>>,
 ) -> Result<Row<K::Clump>, Memory>
     requires some { 0 < length lights.old }
@@ -129,7 +128,7 @@ pub(crate) fn rows_of_tree<K: Kind>(
         return Ok(rows);
     }
     let mut order = numbered::<K>(alloc, lights)?;
-    let mut words = Lcg64Xsh32::new(seed, stream);
+    let mut words = Stream::new(seed, stream);
     grow::<K>(&mut order, &mut words, &mut rows)?;
     Ok(rows)
 }

@@ -4,7 +4,7 @@ ghost use Rattle.lc_tree.specs.Build.{tree_of, weight_of};
 ghost use Rattle.lc_tree.specs.Cover.{IsClumpOf, IsLeaderOf};
 ghost use Rattle.lc_tree.specs.Node.{count_of, kids_of, node_of};
 ghost use Rattle.lc_tree.specs.Rows.{IsRowOf, IsTreeIf};
-ghost use Rattle.lc_tree.specs.Words.{stream_word};
+ghost use Rattle.lc_words.specs.Words.{stream_word};
 
 use crate::build::{clump_weight, rows_of_tree};
 use crate::row::Row;
@@ -35,7 +35,7 @@ impl<K: Kind> Model for Tree<K> {
 }
 
 impl<K: Kind> Tree<K> {
-    /// The tree of at most 65,536 lights by halving, with the words of a stream of the generator of `rand_pcg`.
+    /// The tree of at most 65,536 lights by halving, with the words of a stream of a seed.
     pub fn build(
         alloc: Global,
         lights: &[K::Light],

@@ -1,8 +1,9 @@
 use Rattle.std.proofs.Common.{◌≡◌, ◌+◌, ◌*◌, ◌-◌, ◌/◌, ◌<◌, arith, ap, ◌∙◌, refl, length, vec_len}
 use Rattle.std.proofs.lemmas.List.Sorted.{length_permutation}
-use Rattle.lc_tree.specs.Words.{after, word_of}
+use Rattle.lc_words.specs.Words.{after, word_of}
 use Rattle.lc_tree.specs.Grown.{IsValid, StandsIn}
-use Rattle.lc_tree.proofs.Drawing.{drawn, word_at, after_both, later}
+use Rattle.lc_words.proofs.WordLaws.{word_at, later}
+use Rattle.lc_tree.proofs.Drawing.{after_both}
 use Rattle.lc_tree.proofs.Growing.{grown_leaf, grown_parts, leaf_row, of_front, of_back}
 use Rattle.lc_tree.proofs.Numbering.{all_stand, ordered}
 use Rattle.lc_tree.proofs.build.+grow.Goals as goal
@@ -86,7 +87,7 @@ returns-clause-words g t c =
     let front = c.split_at_mut-left.ensures.front_len in
     let back : length c.split_at_mut-left.result.1.now ≡ length c.args.lights.now - length c.args.lights.now / 2 = omega (arith, c.split_at_mut-left.ensures.back_len, moved) in
     after_both c.args.words.now c.next_word-word.new.self c.grow.new.words c.grow-2.new.words (length c.args.lights.now) (length c.args.lights.now / 2) (omega (arith, c.if-half-eq0.false)) (omega (arith, c.requires.some))
-    (drawn c.args.words.now c.next_word-word.new.self c.next_word-word.result c.next_word-word.ensures).1
+    c.next_word-word.ensures.after
     (c.in_ok-a.ensures.words ∙ ap (λ n. after c.next_word-word.new.self (2 * n - 1)) front)
     (c.in_ok-b.ensures.words ∙ ap (λ n. after c.grow.new.words (2 * n - 1)) back)
 
@@ -98,12 +99,11 @@ returns-clause-grown g t c =
     let ys = c.sort_along.new.lights in
     let front = c.split_at_mut-left.ensures.front_len in
     let rows_len : vec_len c.args.rows.now ≡ length c.args.rows.now.items = omega (arith, c.args.rows.now.ok.0) in
-    let draw = drawn c.args.words.now c.next_word-word.new.self c.next_word-word.result c.next_word-word.ensures in
     let more : vec_len c.grow.new.rows ≡ vec_len c.push.new.self + (2 * length c.split_at_mut-left.result.0.now - 1) = omega (arith, c.in_ok-a.ensures.more, front, c.if-half-eq0.false) in
     let several : 1 < length c.args.lights.now = omega (arith, c.if-half-eq0.false) in
     λ all g' stands drew.
-    let word : c.next_word-word.result ≡ word_of g' (length c.args.rows.now.items) = word_at g' c.args.words.now (length c.args.rows.now.items) c.next_word-word.result (drew ∙ ap (after g') rows_len) draw.0 in
-    let drew_a : c.next_word-word.new.self ≡ after g' (vec_len c.push.new.self) = later g' c.args.words.now c.next_word-word.new.self (vec_len c.args.rows.now) 1 (vec_len c.push.new.self) drew draw.1 c.in_ok-push.ensures.len in
+    let word : c.next_word-word.result ≡ word_of g' (length c.args.rows.now.items) = word_at g' c.args.words.now (length c.args.rows.now.items) c.next_word-word.result (drew ∙ ap (after g') rows_len) c.next_word-word.ensures.word in
+    let drew_a : c.next_word-word.new.self ≡ after g' (vec_len c.push.new.self) = later g' c.args.words.now c.next_word-word.new.self (vec_len c.args.rows.now) 1 (vec_len c.push.new.self) drew c.next_word-word.ensures.after c.in_ok-push.ensures.len in
     let drew_b : c.grow.new.words ≡ after g' (vec_len c.grow.new.rows) = later g' c.next_word-word.new.self c.grow.new.words (vec_len c.push.new.self) (2 * length c.split_at_mut-left.result.0.now - 1) (vec_len c.grow.new.rows) drew_a c.in_ok-a.ensures.words more in
     grown_parts m (word_of g') all lights ys c.split_at_mut-left.result.0.now c.split_at_mut-left.result.1.now half c.args.rows.now.items c.push.new.self.items c.grow.new.rows.items c.grow-2.new.rows.items (leaf_row c.one.result c.index-lights-0.result.number) c.in_ok-a.a c.in_ok-b.b c.len-at.result c.join.result c.leading.result c.next_word-word.result several refl
     (ordered m all c.longest_axis-axis.result lights ys c.longest_axis-axis.ensures (all_stand m all lights c.requires.valid stands) c.sort_along.ensures.permutation c.sort_along.ensures.sorted)

@@ -1,5 +1,5 @@
 use Rattle.std.proofs.Common.{rules, ◌≡◌, ◌<◌, arith, ap, sym, ◌∙◌, subst, All, length, vec_len}
-use Rattle.lc_tree.specs.Words.{after, word_of, stream_of}
+use Rattle.lc_words.specs.Words.{after, word_of, stream_of}
 use Rattle.lc_tree.specs.Grown.{IsValid, StandsIn}
 use Rattle.lc_tree.proofs.Growing.{laid_of_grown}
 use Rattle.lc_tree.proofs.Numbering.{numbered_valid, numbered_stand, length_numbered}

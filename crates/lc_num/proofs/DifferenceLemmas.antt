@@ -1,5 +1,5 @@
 -- Differences as the code computes them.
-use Rattle.std.proofs.Common.{◌≡◌, ℕ, ◌^◌, ◌≤◌, ℤ, ◌-ℤ◌, [], ◌∷◌}
+use Rattle.std.proofs.Common.{◌≡◌, ◌^◌, ◌≤◌, ℤ, ◌-ℤ◌, [], ◌∷◌}
 use Rattle.std.specs.Int.{w64}
 use Rattle.std.specs.Int.RustNames.{unsigned_abs}
 use Rattle.lc_algebra.proofs.Poly.{var, ◌⊖◌}

@@ -1,4 +1,5 @@
 pub mod Triples
+pub mod CrossLemmas
 pub mod SquareLemmas
 pub mod ScaledLemmas
 pub mod CosineLemmas

@@ -20,3 +20,11 @@ dot a b = a.x *ℤ b.x +ℤ a.y *ℤ b.y +ℤ a.z *ℤ b.z
 -- the squared length
 unfoldable pub square : Vec3 → ℕ
 square v = unsigned_abs (dot v v)
+
+-- the vector at right angles to both, whose length is the area that they span
+unfoldable pub cross : Vec3 → Vec3 → Vec3
+cross a b = record {
+  x = a.y *ℤ b.z -ℤ a.z *ℤ b.y;
+  y = a.z *ℤ b.x -ℤ a.x *ℤ b.z;
+  z = a.x *ℤ b.y -ℤ a.y *ℤ b.x;
+}

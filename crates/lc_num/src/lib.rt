@@ -23,7 +23,7 @@ pub use differences::difference;
 pub use lists::List;
 pub use memory::Memory;
 pub use names::Name;
-pub use products::{dot, short_square, square};
+pub use products::{cross, dot, short_square, square};
 pub use roots::isqrt;
 pub use scaling::scaled;
 pub use steps::Steps;

@@ -1,6 +1,6 @@
 // Products of vectors.
-ghost use Rattle.std.specs.Prelude.{◌≡◌, ◌^◌};
-ghost use Rattle.lc_num.specs.Vectors.{Within, dot, square};
+ghost use Rattle.std.specs.Prelude.{◌≡◌, ◌*◌, ◌^◌, ℕ};
+ghost use Rattle.lc_num.specs.Vectors.{Within, cross, dot, square};
 
 use crate::vectors::Vec3;
 
@@ -36,4 +36,19 @@ pub fn short_square(v: Vec3) -> u64
     ensures { result ≡ square v }
 {
     short_dot(v, v) as u64
+}
+
+/// The cross product `a x b`, at right angles to both vectors, in the product of their units. It is as long as the
+/// parallelogram of the two is large, and zero where they have one direction. The components are at most 2^30.
+pub fn cross(a: Vec3, b: Vec3) -> Vec3
+    requires a { Within (2 ^ 30) a }
+    requires b { Within (2 ^ 30) b }
+    ensures value { result ≡ cross a b }
+    ensures within { (m n : ℕ) → Within m a → Within n b → Within (2 * (m * n)) result }
+{
+    Vec3 {
+        x: a.y * b.z - a.z * b.y,
+        y: a.z * b.x - a.x * b.z,
+        z: a.x * b.y - a.y * b.x,
+    }
 }

@@ -1,0 +1,41 @@
+// Triangles and their normals.
+ghost use Rattle.std.specs.Prelude.{◌≡◌, ◌^◌, ◌↔◌, IsTrue};
+ghost use Rattle.lc_num.specs.Vectors.{Within, zero_vector};
+ghost use Rattle.lc_geom.specs.Triangles.{IsTri, across, normal_of};
+
+use lc_num::{Vec3, cross, difference, scaled};
+
+/// A triangle by its corners, in units of 1/10000. A valid one has components from -5000.0000 to 5000.0000.
+#[derive(Clone, Copy, Debug, PartialEq, Eq)]
+pub struct Tri {
+    pub a: Vec3,
+    pub b: Vec3,
+    pub c: Vec3,
+}
+
+/// The cross product of the sides from the first corner to the second and to the third.
+pub(crate) fn across(t: &Tri) -> Vec3
+    requires { IsTri t.now }
+    ensures value { result ≡ across t.now }
+    ensures within { Within (2 ^ 55) result }
+{
+    cross(difference(t.b, t.a), difference(t.c, t.a))
+}
+
+/// The normal of a triangle: 16384 times the cross product of its sides over that product's length, toward zero in each
+/// component. Seen from its side the corners go round against the clock.
+pub fn normal_of(t: &Tri) -> Vec3
+    requires { IsTri t.now }
+    ensures value { result ≡ normal_of t.now }
+    ensures within { Within 16384 result }
+{
+    scaled(across(t), 16_384)
+}
+
+/// Whether the corners lie on one line, so that the triangle has no normal.
+pub fn is_flat(t: &Tri) -> bool
+    requires { IsTri t.now }
+    ensures { IsTrue result ↔ (across t.now ≡ zero_vector) }
+{
+    across(t) == Vec3 { x: 0, y: 0, z: 0 }
+}

@@ -56,6 +56,24 @@ struct OmniClump {
     count: u32,
 }
 
+#[derive(Clone, Copy)]
+struct OrientedClump {
+    span: Span3,
+    normals: Span3,
+    least: u32,
+    total: Power,
+    #[allow(dead_code)]
+    count: u32,
+}
+
+#[derive(Clone, Copy)]
+struct Emission {
+    normals: Span3,
+    least_n: u64,
+    offsets: Span3,
+    least_d: u64,
+}
+
 static RECIPROCAL_ROOTS: [u16; 192] = [
     65281, 64781, 64292, 63814, 63346, 62889, 62441, 62003, 61574, 61154, 60742, 60338, 59943,
     59555, 59174, 58801, 58434, 58075, 57722, 57375, 57035, 56700, 56371, 56048, 55731, 55418,
@@ -167,12 +185,30 @@ fn cos_top(n: Vec3, span: Span3, least: u128) -> u32 {
     cosine_at_most(greatest_dot(n, span), short_square(n) as u128 * (least as u64) as u128)
 }
 
+fn greatest_product(a_lo: i64, a_hi: i64, b_lo: i64, b_hi: i64) -> i64 {
+    greater_product(a_lo, b_lo, b_hi).max(greater_product(a_hi, b_lo, b_hi))
+}
+
+fn greatest_dot_of_boxes(a: Span3, b: Span3) -> i64 {
+    greatest_product(a.lo.x, a.hi.x, b.lo.x, b.hi.x)
+        + greatest_product(a.lo.y, a.hi.y, b.lo.y, b.hi.y)
+        + greatest_product(a.lo.z, a.hi.z, b.lo.z, b.hi.z)
+}
+
+fn emit_top(normals: Span3, least_n: u64, offsets: Span3, least_d: u64) -> u32 {
+    cosine_at_most(greatest_dot_of_boxes(normals, offsets), least_n as u128 * least_d as u128)
+}
+
 fn difference(a: Vec3, b: Vec3) -> Vec3 {
     Vec3 { x: a.x - b.x, y: a.y - b.y, z: a.z - b.z }
 }
 
 fn box_from(x: Vec3, span: Span3) -> Span3 {
     Span3 { lo: difference(span.lo, x), hi: difference(span.hi, x) }
+}
+
+fn box_to(x: Vec3, span: Span3) -> Span3 {
+    Span3 { lo: difference(x, span.hi), hi: difference(x, span.lo) }
 }
 
 fn falloff(square: u64) -> u64 {
@@ -199,6 +235,21 @@ fn top(spot: &Spot, clump: &OmniClump) -> Rgb {
         return Rgb { r: 0, g: 0, b: 0 };
     }
     scaled_total(falloff(near as u64), cosine, spot.kd, clump.total)
+}
+
+fn oriented_top(spot: &Spot, clump: &OrientedClump) -> Rgb {
+    let near = near2(spot.x, clump.span);
+    let cosine = cos_top(spot.n, box_from(spot.x, clump.span), near);
+    if cosine == 0 {
+        return Rgb { r: 0, g: 0, b: 0 };
+    }
+    let offsets = box_to(spot.x, clump.span);
+    let emission = emit_top(clump.normals, clump.least as u64, offsets, near as u64);
+    if emission == 0 {
+        return Rgb { r: 0, g: 0, b: 0 };
+    }
+    let geometry = emission as u64 * falloff(near as u64) / 65536;
+    scaled_total(geometry, cosine, spot.kd, clump.total)
 }
 
 struct Random {
@@ -237,25 +288,78 @@ impl Random {
         }
     }
 
-    fn clump(&mut self) -> OmniClump {
-        let place = self.vector(49_000_000);
-        let apart = self.vector(1_000_000);
+    fn twice_a_power(&mut self) -> Power {
         let r = self.number(100_000_000) as u64;
         let g = self.number(100_000_000) as u64;
         let b = self.number(100_000_000) as u64;
-        OmniClump {
+        Power { r: 2 * r, g: 2 * g, b: 2 * b }
+    }
+
+    fn clump(&mut self) -> OmniClump {
+        let place = self.vector(49_000_000);
+        let apart = self.vector(1_000_000);
+        let total = self.twice_a_power();
+        let span = Span3 { lo: difference(place, apart), hi: place };
+        OmniClump { span, total, count: 2 }
+    }
+
+    fn oriented_clump(&mut self) -> OrientedClump {
+        let place = self.vector(49_000_000);
+        let apart = self.vector(1_000_000);
+        let turned = self.vector(15_384);
+        let more = self.vector(1_000);
+        let total = self.twice_a_power();
+        let origin = Vec3 { x: 0, y: 0, z: 0 };
+        let normal = difference(origin, turned);
+        OrientedClump {
             span: Span3 { lo: difference(place, apart), hi: place },
-            total: Power { r: 2 * r, g: 2 * g, b: 2 * b },
+            normals: Span3 { lo: difference(normal, more), hi: normal },
+            least: short_square(normal) as u32,
+            total,
             count: 2,
+        }
+    }
+
+    fn emission(&mut self) -> Emission {
+        let normal = self.vector(15_384);
+        let turned = self.vector(1_000);
+        let offset = self.vector(99_100_000);
+        let apart = self.vector(1_000_000);
+        let normals = Span3 { lo: difference(normal, turned), hi: normal };
+        let offsets = Span3 { lo: difference(offset, apart), hi: offset };
+        Emission {
+            normals,
+            least_n: short_square(normals.lo),
+            offsets,
+            least_d: short_square(offsets.lo),
         }
     }
 }
 
+fn plus(total: u128, top: Rgb) -> u128 {
+    total.wrapping_add(top.r).wrapping_add(top.g).wrapping_add(top.b)
+}
+
 fn add_tops(sum: u128, cases: &[(Spot, OmniClump)]) -> u128 {
-    cases.iter().fold(sum, |total, (spot, clump)| {
-        let top = top(spot, clump);
-        total.wrapping_add(top.r).wrapping_add(top.g).wrapping_add(top.b)
+    cases.iter().fold(sum, |total, (spot, clump)| plus(total, top(spot, clump)))
+}
+
+fn add_oriented_tops(sum: u128, cases: &[(Spot, OrientedClump)]) -> u128 {
+    cases.iter().fold(sum, |total, (spot, clump)| plus(total, oriented_top(spot, clump)))
+}
+
+fn add_emissions(sum: u128, emissions: &[Emission]) -> u128 {
+    emissions.iter().fold(sum, |total, e| {
+        total.wrapping_add(emit_top(e.normals, e.least_n, e.offsets, e.least_d) as u128)
     })
+}
+
+fn report(timed: bool, bound: &str, sum: u128, start: Instant) {
+    if timed {
+        println!("{bound} {sum} {}", start.elapsed().as_nanos());
+    } else {
+        println!("{bound} {sum}");
+    }
 }
 
 fn main() {
@@ -270,11 +374,23 @@ fn main() {
         })
         .collect();
 
+    let oriented_cases: Vec<(Spot, OrientedClump)> = (0..1024)
+        .map(|_| {
+            let spot = random.spot();
+            (spot, random.oriented_clump())
+        })
+        .collect();
+    let emissions: Vec<Emission> = (0..1024).map(|_| random.emission()).collect();
+
     let start = Instant::now();
     let sum = (0..rounds).fold(0, |sum, _| add_tops(sum, &cases));
-    if timed {
-        println!("top {sum} {}", start.elapsed().as_nanos());
-    } else {
-        println!("top {sum}");
-    }
+    report(timed, "top", sum, start);
+
+    let start = Instant::now();
+    let sum = (0..rounds).fold(0, |sum, _| add_oriented_tops(sum, &oriented_cases));
+    report(timed, "oriented", sum, start);
+
+    let start = Instant::now();
+    let sum = (0..rounds).fold(0, |sum, _| add_emissions(sum, &emissions));
+    report(timed, "emit_top", sum, start);
 }

@@ -1,5 +1,6 @@
 #!/usr/bin/env bash
-# Times the bound of a clump of lights in the proved program and in plain Rust: nanoseconds a call, the best of several runs.
+# Times the bounds of clumps of lights, and emit_top, in the proved program and in plain Rust: nanoseconds a call, the
+# best of several runs.
 set -eu
 cd "$(dirname "$0")/.."
 rounds=${1:-3000}
@@ -21,6 +22,6 @@ done | awk -v calls=$((rounds * 1024)) '
     END {
         for (term in terms) {
             p = best["proved " term] / calls; q = best["plain " term] / calls
-            printf "%-7s proved %6.1f ns  plain %6.1f ns  ratio %.2f\n", term, p, q, p / q
+            printf "%-8s proved %6.1f ns  plain %6.1f ns  ratio %.2f\n", term, p, q, p / q
         }
     }' | sort

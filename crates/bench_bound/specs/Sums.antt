@@ -1,8 +1,22 @@
 -- What is added up for each input.
 use Rattle.std.specs.Prelude.{ℕ, ◌+◌}
+use Rattle.lc_num.specs.Boxes.{emit_top}
+use Rattle.lc_num.specs.declared.channels.Rgb.{Rgb}
 use Rattle.lc_bound.specs.Omni.{top}
+use Rattle.lc_bound.specs.Oriented.{top as oriented_top}
 use Rattle.bench_bound.specs.declared.inputs.Case.{Case}
+use Rattle.bench_bound.specs.declared.inputs.OrientedCase.{OrientedCase}
+use Rattle.bench_bound.specs.declared.inputs.Emission.{Emission}
 
 -- the bound's three channels
+abbrev channels : Rgb → ℕ
+channels c = c.r + c.g + c.b
+
 abbrev pub top_sum : Case → ℕ
-top_sum k = (top k.spot k.clump).r + (top k.spot k.clump).g + (top k.spot k.clump).b
+top_sum k = channels (top k.spot k.clump)
+
+abbrev pub oriented_sum : OrientedCase → ℕ
+oriented_sum k = channels (oriented_top k.spot k.clump)
+
+abbrev pub emission_of : Emission → ℕ
+emission_of e = emit_top e.normals e.least_n e.offsets e.least_d

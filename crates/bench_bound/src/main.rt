@@ -1,6 +1,6 @@
-//! Bounds what seeded clumps of lights give to seeded spots, and prints a checksum of the bounds.
+//! Bounds what seeded clumps of lights give to seeded spots, and prints a checksum of each kind of bound.
 //!
-//! The arguments are the number of rounds over the inputs and, for the nanoseconds that they took, the word `time`.
+//! The arguments are the number of rounds over the inputs and, for the nanoseconds that each kind took, the word `time`.
 #![tactic(auto)]
 
 mod inputs;
@@ -33,18 +33,34 @@ fn read_order(rt: &HostRuntime) -> Result<Order> {
     Ok(order)
 }
 
+fn report(rt: &HostRuntime, order: &Order, bound: &str, sum: u128, start: Instant) -> Result<()> {
+    if order.timed {
+        let nanoseconds = start.elapsed(rt)?.as_nanos();
+        println!(rt; "{bound} {sum} {nanoseconds}")?;
+    } else {
+        println!(rt; "{bound} {sum}")?;
+    }
+    Ok(())
+}
+
 fn main(rt: HostRuntime) -> Result<()> {
     let order = read_order(&rt)?;
+    let alloc = rt.alloc();
     let mut random = Random::new();
-    let cases = inputs::cases(rt.alloc(), &mut random)?;
+    let cases = inputs::cases(alloc, &mut random)?;
+    let oriented_cases = inputs::oriented_cases(alloc, &mut random)?;
+    let emissions = inputs::emissions(alloc, &mut random)?;
 
     let start = Instant::now(&rt)?;
     let sum = rounds::tops(order.rounds, cases.as_slice());
-    if order.timed {
-        let nanoseconds = start.elapsed(&rt)?.as_nanos();
-        println!(rt; "top {sum} {nanoseconds}")?;
-    } else {
-        println!(rt; "top {sum}")?;
-    }
+    report(&rt, &order, "top", sum, start)?;
+
+    let start = Instant::now(&rt)?;
+    let sum = rounds::oriented_tops(order.rounds, oriented_cases.as_slice());
+    report(&rt, &order, "oriented", sum, start)?;
+
+    let start = Instant::now(&rt)?;
+    let sum = rounds::emissions(order.rounds, emissions.as_slice());
+    report(&rt, &order, "emit_top", sum, start)?;
     Ok(())
 }

@@ -1,10 +1,10 @@
 // Rounds over the inputs.
 ghost use Rattle.std.specs.Prelude.{◌≡◌, ◌+◌, ◌%◌, ◌^◌, sum_by};
-ghost use Rattle.bench_bound.specs.Sums.{top_sum};
+ghost use Rattle.bench_bound.specs.Sums.{emission_of, oriented_sum, top_sum};
 
-use crate::inputs::Case;
-use lc_bound::OmniKind;
-use lc_num::Rgb;
+use crate::inputs::{Case, Emission, OrientedCase};
+use lc_bound::{OmniKind, OrientedKind};
+use lc_num::{Rgb, emit_top};
 use lc_terms::Kind;
 
 /// A number and the three channels of a bound.
@@ -26,11 +26,50 @@ fn add_tops(sum: u128, cases: &[Case]) -> u128
     total
 }
 
+fn add_oriented_tops(sum: u128, cases: &[OrientedCase]) -> u128
+    ensures { result ≡ (sum + sum_by oriented_sum cases.now) % 2 ^ 128 }
+{
+    let mut total = sum;
+    for case in cases {
+        total = plus(total, OrientedKind::top(&case.spot, &case.clump));
+    }
+    total
+}
+
+fn add_emissions(sum: u128, emissions: &[Emission]) -> u128
+    ensures { result ≡ (sum + sum_by emission_of emissions.now) % 2 ^ 128 }
+{
+    let mut total = sum;
+    for e in emissions {
+        let top = emit_top(e.normals, e.least_n as u128, e.offsets, e.least_d as u128);
+        total = total.wrapping_add(top as u128);
+    }
+    total
+}
+
 /// The sum of the bounds in all rounds.
 pub fn tops(rounds: u32, cases: &[Case]) -> u128 {
     let mut sum = 0;
     for _ in 0..rounds {
         sum = add_tops(sum, cases);
+    }
+    sum
+}
+
+/// The sum of the bounds of oriented lights in all rounds.
+pub fn oriented_tops(rounds: u32, cases: &[OrientedCase]) -> u128 {
+    let mut sum = 0;
+    for _ in 0..rounds {
+        sum = add_oriented_tops(sum, cases);
+    }
+    sum
+}
+
+/// The sum of the bounds of cosines between two boxes in all rounds.
+pub fn emissions(rounds: u32, emissions: &[Emission]) -> u128 {
+    let mut sum = 0;
+    for _ in 0..rounds {
+        sum = add_emissions(sum, emissions);
     }
     sum
 }

@@ -3,10 +3,11 @@ use Rattle.std.proofs.Common.{ℕ, ◌+◌, ◌≤◌, ◌⊎◌, inl, inr, arit
 use Rattle.std.specs.Int.RustNames.{unsigned_abs}
 use Rattle.std.specs.Int.{int_min, int_max}
 use Rattle.std.proofs.lemmas.Int.{ints, clamps}
-use Rattle.lc_num.specs.Vectors.{Within, difference}
+use Rattle.lc_num.specs.Vectors.{Within, difference, greater, lesser}
 use Rattle.lc_num.specs.Boxes.{Ends, IsOrdered, IsInside, IsBoxWithin}
 use Rattle.lc_num.specs.declared.vectors.Vec3.{Vec3}
-use Rattle.lc_bound.specs.Hull.{point_box, least, greatest, hull, box_from}
+use Rattle.lc_num.proofs.ExtremeLemmas.{greater_within, lesser_within}
+use Rattle.lc_bound.specs.Hull.{point_box, hull, box_from, box_to}
 
 ≤ℤ_same : (a : ℤ) → a ≤ℤ a
 ≤ℤ_same a = omega (arith, ints)
@@ -23,25 +24,8 @@ point_box-within m p h = record { lo = h; hi = h }
 
 -- ---- around two boxes
 
-min_small : (m : ℕ) (a b : ℤ) → unsigned_abs a ≤ m → unsigned_abs b ≤ m → unsigned_abs (int_min a b) ≤ m
-min_small m a b ha hb = omega (arith, ints, clamps)
-
-max_small : (m : ℕ) (a b : ℤ) → unsigned_abs a ≤ m → unsigned_abs b ≤ m → unsigned_abs (int_max a b) ≤ m
-max_small m a b ha hb = omega (arith, ints, clamps)
-
 pub hull-within : (m : ℕ) (a b : Ends) → IsBoxWithin m a → IsBoxWithin m b → IsBoxWithin m (hull a b)
-hull-within m a b ha hb = record {
-  lo = record {
-    x = min_small m a.lo.x b.lo.x ha.lo.x hb.lo.x;
-    y = min_small m a.lo.y b.lo.y ha.lo.y hb.lo.y;
-    z = min_small m a.lo.z b.lo.z ha.lo.z hb.lo.z;
-  };
-  hi = record {
-    x = max_small m a.hi.x b.hi.x ha.hi.x hb.hi.x;
-    y = max_small m a.hi.y b.hi.y ha.hi.y hb.hi.y;
-    z = max_small m a.hi.z b.hi.z ha.hi.z hb.hi.z;
-  };
-}
+hull-within m a b ha hb = record { lo = lesser_within m a.lo b.lo ha.lo hb.lo; hi = greater_within m a.hi b.hi ha.hi hb.hi }
 
 from_left : (lo hi p lo2 hi2 : ℤ) → (lo ≤ℤ p) × (p ≤ℤ hi) → (int_min lo lo2 ≤ℤ p) × (p ≤ℤ int_max hi hi2)
 from_left lo hi p lo2 hi2 h = let low = h.0 in let high = h.1 in (omega (arith, ints, clamps), omega (arith, ints, clamps))
@@ -64,7 +48,7 @@ hull-inside a b p (inr h) = record {
 around : (lo hi lo2 hi2 : ℤ) → lo ≤ℤ hi → int_min lo lo2 ≤ℤ int_max hi hi2
 around lo hi lo2 hi2 h = omega (arith, ints, clamps)
 
-pub hull-ordered : (a b c d : Vec3) → IsOrdered a c → IsOrdered (least a b) (greatest c d)
+pub hull-ordered : (a b c d : Vec3) → IsOrdered a c → IsOrdered (lesser a b) (greater c d)
 hull-ordered a b c d h = record { x = around a.x c.x b.x d.x h.x; y = around a.y c.y b.y d.y h.y; z = around a.z c.z b.z d.z h.z }
 
 -- ---- as seen from a place
@@ -99,4 +83,25 @@ box_from-inside x box p h = record {
   x = moved box.lo.x box.hi.x p.x x.x h.x;
   y = moved box.lo.y box.hi.y p.y x.y h.y;
   z = moved box.lo.z box.hi.z p.z x.z h.z;
+}
+
+-- ---- as a place is seen from it
+
+pub box_to-within : (m n : ℕ) (x : Vec3) (box : Ends) → Within m x → IsBoxWithin n box → IsBoxWithin (m + n) (box_to x box)
+box_to-within m n x box hx hb = record { lo = difference-within m n x box.hi hx hb.hi; hi = difference-within m n x box.lo hx hb.lo }
+
+turned : (lo hi p x : ℤ) → (lo ≤ℤ p) × (p ≤ℤ hi) → ((x -ℤ hi) ≤ℤ (x -ℤ p)) × ((x -ℤ p) ≤ℤ (x -ℤ lo))
+turned lo hi p x h = let low = h.0 in let high = h.1 in (omega (arith, ints), omega (arith, ints))
+
+turned_order : (a b x : ℤ) → a ≤ℤ b → (x -ℤ b) ≤ℤ (x -ℤ a)
+turned_order a b x h = omega (arith, ints)
+
+pub box_to-ordered : (a b x : Vec3) → IsOrdered a b → IsOrdered (difference x b) (difference x a)
+box_to-ordered a b x h = record { x = turned_order a.x b.x x.x h.x; y = turned_order a.y b.y x.y h.y; z = turned_order a.z b.z x.z h.z }
+
+pub box_to-inside : (x : Vec3) (box : Ends) (p : Vec3) → IsInside box p → IsInside (box_to x box) (difference x p)
+box_to-inside x box p h = record {
+  x = turned box.lo.x box.hi.x p.x x.x h.x;
+  y = turned box.lo.y box.hi.y p.y x.y h.y;
+  z = turned box.lo.z box.hi.z p.z x.z h.z;
 }

@@ -6,6 +6,8 @@ pub use Rattle.lc_light.specs.Lights
 pub mod Hull
 pub mod Reach
 pub mod Omni
+pub mod Oriented
 pub mod HullLaws
 pub mod ReachLaws
 pub mod OmniLaws
+pub mod OrientedLaws

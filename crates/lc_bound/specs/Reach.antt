@@ -8,6 +8,10 @@ use Rattle.lc_terms.specs.declared.spot.Spot.{Spot}
 abbrev pub falloff : ℕ → ℕ
 falloff square = 10 ^ 17 / max square (10 ^ 4)
 
+-- the geometric term of a light that leaves its surface at a cosine in 1/65536, from that of a light without a surface
+abbrev pub emitted : ℕ → ℕ → ℕ
+emitted cosine geometry = cosine * geometry / 65536
+
 -- a bound of the material term of a matte spot for light from the vectors of the box whose squared length is at least
 -- `least`
 abbrev pub material_top : Spot → Ends → ℕ → Rgb

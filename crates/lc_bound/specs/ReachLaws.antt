@@ -1,7 +1,7 @@
 -- Bounds over a box are at least the terms that they bound.
 use Rattle.std.proofs.Common.{ℕ, ◌*◌, ◌/◌, ◌^◌, ◌<◌, ◌≤◌, max, arith, le_trans}
-use Rattle.std.proofs.lemmas.Nat.{mul-le}
-use Rattle.std.proofs.Math.Nat.{le-div_iff_mul-le, mul-div-le, mul-le-mul_left}
+use Rattle.std.proofs.lemmas.Nat.{le-div, mul-le}
+use Rattle.std.proofs.Math.Nat.{div-mul-le_self, le-div_iff_mul-le, mul-div-le, mul-le-mul_left}
 use Rattle.lc_num.specs.Channels.{IsRgbWithin}
 use Rattle.lc_num.specs.Vectors.{square}
 use Rattle.lc_num.specs.Boxes.{Ends, IsInside}
@@ -12,7 +12,7 @@ use Rattle.lc_terms.specs.Channels.{times, IsAtMost}
 use Rattle.lc_terms.specs.Factor.{material}
 use Rattle.lc_terms.specs.Spot.{IsSpot}
 use Rattle.lc_terms.specs.declared.spot.Spot.{Spot}
-use Rattle.lc_bound.specs.Reach.{falloff, material_top}
+use Rattle.lc_bound.specs.Reach.{emitted, falloff, material_top}
 
 -- a quotient by a greater number is no greater
 quotient_falls : (n c d : ℕ) → 0 < c → c ≤ d → n / d ≤ n / c
@@ -24,6 +24,13 @@ falloff-falls near far h = quotient_falls (10 ^ 17) (max near (10 ^ 4)) (max far
 
 pub falloff-small : (square : ℕ) → falloff square ≤ 10 ^ 13
 falloff-small square = quotient_falls (10 ^ 17) (10 ^ 4) (max square (10 ^ 4)) (omega arith) (omega arith)
+
+pub emitted-rises : (c d g h : ℕ) → c ≤ d → g ≤ h → emitted c g ≤ emitted d h
+emitted-rises c d g h more_cosine more =
+    le-div (c * g / 65536) (d * h) 65536 (omega arith) (le_trans (div-mul-le_self (c * g) 65536) (mul-le c g d h more_cosine more))
+
+pub emitted-small : (cosine geometry : ℕ) → cosine ≤ 65536 → geometry ≤ 10 ^ 13 → emitted cosine geometry ≤ 10 ^ 13
+emitted-small cosine geometry small most = emitted-rises cosine 65536 geometry (10 ^ 13) small most
 
 -- the light from a vector of the box that is not shorter than `least`
 pub material-below : (spot : Spot) (box : Ends) (least : ℕ) (b : Vec3) → IsInside box b → least ≤ square b → IsAtMost (material_top spot box least) (material spot b)

@@ -3,6 +3,8 @@
 
 mod hull;
 mod omni;
+mod oriented;
 mod reach;
 
 pub use omni::{OmniClump, OmniKind};
+pub use oriented::{OrientedClump, OrientedKind};

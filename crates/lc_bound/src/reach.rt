@@ -2,7 +2,7 @@
 ghost use Rattle.std.specs.Prelude.{◌≡◌, ◌*◌, ◌≤◌, ◌^◌};
 ghost use Rattle.lc_num.specs.Channels.{IsPowerWithin, IsColourWithin};
 ghost use Rattle.lc_terms.specs.Channels.{by_power, times};
-ghost use Rattle.lc_bound.specs.Reach.{falloff};
+ghost use Rattle.lc_bound.specs.Reach.{emitted, falloff};
 
 use lc_num::{Colour, Power, Rgb};
 
@@ -12,6 +12,17 @@ pub fn falloff(square: u64) -> u64
     ensures most { result ≤ 10 ^ 13 }
 {
     100_000_000_000_000_000 / square.max(10_000)
+}
+
+/// The geometric term of a light that leaves its surface at a cosine in 1/65536: that of a light without a surface times
+/// the cosine, rounded down.
+pub fn emitted(cosine: u32, geometry: u64) -> u64
+    requires cosine { cosine ≤ 65_536 }
+    requires geometry { geometry ≤ 10 ^ 13 }
+    ensures value { result ≡ emitted cosine geometry }
+    ensures most { result ≤ 10 ^ 13 }
+{
+    cosine as u64 * geometry / 65_536
 }
 
 /// One channel of a bound times the summed intensity, where `scale` is the geometric bound times the cosine.

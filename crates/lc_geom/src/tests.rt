@@ -41,5 +41,11 @@ fn normals(rt: HostRuntime) {
     assert_eq!(rt; normal_of(&Tri { a, b, c: far }), Vec3 { x: 0, y: 0, z: 0 });
     // The least triangle that is not flat.
     let near = Vec3 { x: 1, y: 0, z: 0 };
-    assert!(rt; !is_flat(&Tri { a, b: near, c: Vec3 { x: 0, y: 0, z: 1 } }));
+    assert!(rt;
+        !is_flat(&Tri {
+            a,
+            b: near,
+            c: Vec3 { x: 0, y: 0, z: 1 }
+        })
+    );
 }

@@ -1,4 +1,4 @@
--- What the code of `near2` and `cos_top` gives.
+-- What the code of `near2`, `cos_top` and `emit_top` gives.
 use Rattle.std.proofs.Common.{◌≡◌, ℕ, ◌+◌, ◌*◌, ◌/◌, ◌^◌, ◌<◌, ◌≤◌, true, false, arith, refl, ◌∙◌, ⊎_elim, ℤ, pos, negsuc, ◌+ℤ◌, ◌-ℤ◌, ◌*ℤ◌, [], ◌∷◌, FitsSigned}
 use Rattle.std.specs.Int.RustNames.{unsigned_abs, int_le, int_lt}
 use Rattle.std.specs.Int.{w64, int_min, int_max}
@@ -12,10 +12,10 @@ use Rattle.lc_algebra.proofs.Within.{none, more}
 use Rattle.lc_algebra.proofs.Machine.{read, read_small, gives}
 use Rattle.lc_num.specs.Vectors.{Within, difference}
 use Rattle.lc_num.specs.Cosines.{cosine_at_most}
-use Rattle.lc_num.specs.Boxes.{IsBoxWithin, nearest, near2, greatest_dot}
+use Rattle.lc_num.specs.Boxes.{IsBoxWithin, nearest, near2, greatest_dot, greatest_product, greatest_dot_of_boxes}
 use Rattle.lc_num.specs.declared.vectors.Vec3.{Vec3}
 use Rattle.lc_num.proofs.SquareLemmas.{square-is}
-use Rattle.lc_num.proofs.BoxLemmas.{max_small}
+use Rattle.lc_num.proofs.BoxLemmas.{max_small, greatest_product-small}
 use Rattle.lc_num.proofs.CosineLemmas.{not_positive}
 use Rattle.lc_num.proofs.ScaledLemmas.{eqb_no}
 
@@ -66,15 +66,43 @@ greater_small n lo hi r low high e =
     let b : unsigned_abs (n *ℤ hi) ≤ 16384 * 100_100_000 = rw unsigned_abs-mul high in
     rw e (max_small (n *ℤ lo) (n *ℤ hi) (16384 * 100_100_000) a b)
 
--- the sum of the three
+-- the sum of three small numbers
+sum_of_three : (p q r : ℤ) → unsigned_abs p ≤ 16384 * 100_100_000 → unsigned_abs q ≤ 16384 * 100_100_000 → unsigned_abs r ≤ 16384 * 100_100_000 → read w64 (read w64 (read w64 p +ℤ read w64 q) +ℤ read w64 r) ≡ p +ℤ q +ℤ r
+sum_of_three p q r hp hq hr =
+    gives w64 (p ∷ q ∷ r ∷ []) (16384 * 100_100_000 ∷ 16384 * 100_100_000 ∷ 16384 * 100_100_000 ∷ []) (more hp (more hq (more hr none))) (var 0 ⊕ var 1 ⊕ var 2) tt
+
 pub greatest_is : (n lo hi : Vec3) (p q r : ℤ)
     → unsigned_abs p ≤ 16384 * 100_100_000 → unsigned_abs q ≤ 16384 * 100_100_000 → unsigned_abs r ≤ 16384 * 100_100_000
     → p ≡ int_max (n.x *ℤ lo.x) (n.x *ℤ hi.x) → q ≡ int_max (n.y *ℤ lo.y) (n.y *ℤ hi.y) → r ≡ int_max (n.z *ℤ lo.z) (n.z *ℤ hi.z)
     → read w64 (read w64 (read w64 p +ℤ read w64 q) +ℤ read w64 r) ≡ greatest_dot n (record { lo = lo; hi = hi })
 unfolding greatest_dot
-greatest_is n lo hi p q r hp hq hr ep eq er =
-    gives w64 (p ∷ q ∷ r ∷ []) (16384 * 100_100_000 ∷ 16384 * 100_100_000 ∷ 16384 * 100_100_000 ∷ []) (more hp (more hq (more hr none))) (var 0 ⊕ var 1 ⊕ var 2) tt
-    ∙ rw (ep, eq, er) refl
+greatest_is n lo hi p q r hp hq hr ep eq er = sum_of_three p q r hp hq hr ∙ rw (ep, eq, er) refl
+
+-- ---- the greatest dot product of two boxes
+
+-- the code of `greatest_product` gives the greatest of the four
+pub four_is : (a_lo a_hi b_lo b_hi p q r : ℤ) → FitsSigned w64 a_lo → FitsSigned w64 a_hi → FitsSigned w64 b_lo → FitsSigned w64 b_hi → FitsSigned w64 p → FitsSigned w64 q → FitsSigned w64 r
+    → p ≡ int_max (read w64 a_lo *ℤ read w64 b_lo) (read w64 a_lo *ℤ read w64 b_hi)
+    → q ≡ int_max (read w64 a_hi *ℤ read w64 b_lo) (read w64 a_hi *ℤ read w64 b_hi)
+    → r ≡ int_max (read w64 p) (read w64 q)
+    → read w64 r ≡ greatest_product a_lo a_hi b_lo b_hi
+four_is a_lo a_hi b_lo b_hi p q r fal fah fbl fbh fp fq fr ep eq er =
+    let p_is = max_read a_lo b_lo b_hi p fal fbl fbh ep in
+    let q_is = max_read a_hi b_lo b_hi q fah fbl fbh eq in
+    to_z-of_z w64 r fr ∙ rw (to_z-of_z w64 p fp, to_z-of_z w64 q fq, p_is, q_is) at er
+
+pub four_small : (a_lo a_hi b_lo b_hi r : ℤ) → unsigned_abs a_lo ≤ 16384 → unsigned_abs a_hi ≤ 16384 → unsigned_abs b_lo ≤ 100_100_000 → unsigned_abs b_hi ≤ 100_100_000 → r ≡ greatest_product a_lo a_hi b_lo b_hi → unsigned_abs r ≤ 16384 * 100_100_000
+four_small a_lo a_hi b_lo b_hi r al ah bl bh e = rw e (greatest_product-small a_lo a_hi b_lo b_hi 16384 100_100_000 al ah bl bh)
+
+pub four_read : (a_lo a_hi b_lo b_hi r : ℤ) → FitsSigned w64 a_lo → FitsSigned w64 a_hi → FitsSigned w64 b_lo → FitsSigned w64 b_hi → r ≡ greatest_product (read w64 a_lo) (read w64 a_hi) (read w64 b_lo) (read w64 b_hi) → r ≡ greatest_product a_lo a_hi b_lo b_hi
+four_read a_lo a_hi b_lo b_hi r fal fah fbl fbh e = rw (to_z-of_z w64 a_lo fal, to_z-of_z w64 a_hi fah, to_z-of_z w64 b_lo fbl, to_z-of_z w64 b_hi fbh) at e
+
+pub greatest_of_boxes_is : (a_lo a_hi b_lo b_hi : Vec3) (p q r : ℤ)
+    → unsigned_abs p ≤ 16384 * 100_100_000 → unsigned_abs q ≤ 16384 * 100_100_000 → unsigned_abs r ≤ 16384 * 100_100_000
+    → p ≡ greatest_product a_lo.x a_hi.x b_lo.x b_hi.x → q ≡ greatest_product a_lo.y a_hi.y b_lo.y b_hi.y → r ≡ greatest_product a_lo.z a_hi.z b_lo.z b_hi.z
+    → read w64 (read w64 (read w64 p +ℤ read w64 q) +ℤ read w64 r) ≡ greatest_dot_of_boxes (record { lo = a_lo; hi = a_hi }) (record { lo = b_lo; hi = b_hi })
+unfolding greatest_dot_of_boxes
+greatest_of_boxes_is a_lo a_hi b_lo b_hi p q r hp hq hr ep eq er = sum_of_three p q r hp hq hr ∙ rw (ep, eq, er) refl
 
 -- ---- the cosine
 

@@ -4,10 +4,11 @@ use Rattle.std.specs.Int.RustNames.{unsigned_abs}
 use Rattle.std.specs.Int.{int_min, int_max}
 use Rattle.std.proofs.lemmas.Int.{ints, clamps}
 use Rattle.std.proofs.lemmas.Nat.{mul-le}
+use Rattle.std.proofs.Math.IntN.{*ℤ_comm}
 use Rattle.lc_algebra.proofs.Absolute.{abs-times, abs-sum3}
-use Rattle.lc_algebra.proofs.Order.{add-le3, between_products}
+use Rattle.lc_algebra.proofs.Order.{≤ℤ_trans, add-le3, between_products}
 use Rattle.lc_num.specs.Vectors.{Within, difference, dot, square}
-use Rattle.lc_num.specs.Boxes.{Ends, IsOrdered, IsInside, IsBoxWithin, CanBound, nearest, near2, greatest_dot}
+use Rattle.lc_num.specs.Boxes.{Ends, IsOrdered, IsInside, IsBoxWithin, CanBound, nearest, near2, greatest_dot, greatest_product, greatest_dot_of_boxes}
 use Rattle.lc_num.specs.declared.vectors.Vec3.{Vec3}
 use Rattle.lc_num.proofs.SquareLemmas.{square-is}
 
@@ -102,3 +103,31 @@ ends_small n box h =
     (λ (w : Within 16384 n × IsBoxWithin 100_100_000 box). small_by n box 16384 100_100_000 (omega arith) w.0 w.1)
     (λ (w : Within 100_100_000 n × IsBoxWithin 16384 box). small_by n box 100_100_000 16384 (omega arith) w.0 w.1)
     h
+
+-- ---- two boxes
+
+max_below : (a b x y : ℤ) → a ≤ℤ x → b ≤ℤ y → int_max a b ≤ℤ int_max x y
+max_below a b x y h k = omega (arith, ints, clamps)
+
+-- a product of numbers of two intervals is at most the greatest product of their ends
+between_four_products : (a_lo a_hi b_lo b_hi a b : ℤ) → (a_lo ≤ℤ a) × (a ≤ℤ a_hi) → (b_lo ≤ℤ b) × (b ≤ℤ b_hi) → (a *ℤ b) ≤ℤ greatest_product a_lo a_hi b_lo b_hi
+between_four_products a_lo a_hi b_lo b_hi a b ha hb =
+    let turned : (a *ℤ b) ≤ℤ int_max (a_lo *ℤ b) (a_hi *ℤ b) = rw (*ℤ_comm b a, *ℤ_comm b a_lo, *ℤ_comm b a_hi) at (between_products b a_lo a_hi a ha.0 ha.1) in
+    ≤ℤ_trans (a *ℤ b) (int_max (a_lo *ℤ b) (a_hi *ℤ b)) (greatest_product a_lo a_hi b_lo b_hi) turned
+    (max_below (a_lo *ℤ b) (a_hi *ℤ b) (int_max (a_lo *ℤ b_lo) (a_lo *ℤ b_hi)) (int_max (a_hi *ℤ b_lo) (a_hi *ℤ b_hi))
+    (between_products a_lo b_lo b_hi b hb.0 hb.1)
+    (between_products a_hi b_lo b_hi b hb.0 hb.1))
+
+pub dot_below_greatest_of_boxes : (m d : Vec3) (a b : Ends) → IsInside a m → IsInside b d → dot m d ≤ℤ greatest_dot_of_boxes a b
+unfolding dot greatest_dot_of_boxes
+dot_below_greatest_of_boxes m d a b hm hd =
+    add-le3 (m.x *ℤ d.x) (m.y *ℤ d.y) (m.z *ℤ d.z) (greatest_product a.lo.x a.hi.x b.lo.x b.hi.x) (greatest_product a.lo.y a.hi.y b.lo.y b.hi.y) (greatest_product a.lo.z a.hi.z b.lo.z b.hi.z)
+    (between_four_products a.lo.x a.hi.x b.lo.x b.hi.x m.x d.x hm.x hd.x)
+    (between_four_products a.lo.y a.hi.y b.lo.y b.hi.y m.y d.y hm.y hd.y)
+    (between_four_products a.lo.z a.hi.z b.lo.z b.hi.z m.z d.z hm.z hd.z)
+
+pub greatest_product-small : (a_lo a_hi b_lo b_hi : ℤ) (m n : ℕ) → unsigned_abs a_lo ≤ m → unsigned_abs a_hi ≤ m → unsigned_abs b_lo ≤ n → unsigned_abs b_hi ≤ n → unsigned_abs (greatest_product a_lo a_hi b_lo b_hi) ≤ m * n
+greatest_product-small a_lo a_hi b_lo b_hi m n al ah bl bh =
+    max_small (int_max (a_lo *ℤ b_lo) (a_lo *ℤ b_hi)) (int_max (a_hi *ℤ b_lo) (a_hi *ℤ b_hi)) (m * n)
+    (max_small (a_lo *ℤ b_lo) (a_lo *ℤ b_hi) (m * n) (abs-times a_lo b_lo m n al bl) (abs-times a_lo b_hi m n al bh))
+    (max_small (a_hi *ℤ b_lo) (a_hi *ℤ b_hi) (m * n) (abs-times a_hi b_lo m n ah bl) (abs-times a_hi b_hi m n ah bh))

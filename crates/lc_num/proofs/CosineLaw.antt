@@ -10,11 +10,11 @@ use Rattle.lc_algebra.specs.Roots.{ratio_root}
 use Rattle.lc_algebra.proofs.Roots.{ratio_root-rises, ratio_root-at_most}
 use Rattle.lc_num.specs.Vectors.{dot, square}
 use Rattle.lc_num.specs.Cosines.{cos16, cosine_at_most}
-use Rattle.lc_num.specs.Boxes.{Ends, IsInside, greatest_dot, cos_top}
+use Rattle.lc_num.specs.Boxes.{Ends, IsInside, greatest_dot, greatest_dot_of_boxes, cos_top, emit_top}
 use Rattle.lc_num.specs.declared.vectors.Vec3.{Vec3}
 use Rattle.lc_num.proofs.SquareLemmas.{schwarz}
 use Rattle.lc_num.proofs.ScaledLemmas.{eqb_no}
-use Rattle.lc_num.proofs.BoxLemmas.{dot_below_greatest}
+use Rattle.lc_num.proofs.BoxLemmas.{dot_below_greatest, dot_below_greatest_of_boxes}
 
 positive_sign : (z : ℤ) → int_lt (pos 0) z ≡ true → 0 < unsigned_abs z
 positive_sign (pos n) h = grind (arith, nat_tests)
@@ -30,6 +30,14 @@ own_root n b some =
     let least = mul-le 1 1 (unsigned_abs (dot n b)) (unsigned_abs (dot n b)) some some in
     let positive : 0 < square n * square b = omega arith in
     (positive, ratio_root-at_most _ _ 65536 (omega arith))
+
+pub cos16-small : (n b : Vec3) → cos16 n b ≤ 65536
+unfolding cos16
+cos16-small n b =
+    ⊎_elim
+    (λ (yes : int_lt (pos 0) (dot n b) ≡ true). rw yes (own_root n b (positive_sign (dot n b) yes)).1)
+    (λ (no : int_lt (pos 0) (dot n b) ≡ false). rw no (omega arith))
+    (cases_Bool (int_lt (pos 0) (dot n b)))
 
 -- a greater dot product over a smaller product of squared lengths gives no smaller cosine
 pub cos16_below : (n b : Vec3) (top : ℤ) (squares : ℕ) → dot n b ≤ℤ top → squares ≤ square n * square b → cos16 n b ≤ cosine_at_most top squares
@@ -54,6 +62,12 @@ unfolding cos_top
 cos16_below_cos_top n b box least inside small =
     cos16_below n b (greatest_dot n box) (square n * least) (dot_below_greatest n b box inside) (mul-le-mul_left (square n) small)
 
+pub cos16_below_emit_top : (m d : Vec3) (normals : Ends) (least_n : ℕ) (offsets : Ends) (least_d : ℕ)
+    → IsInside normals m → IsInside offsets d → least_n ≤ square m → least_d ≤ square d → cos16 m d ≤ emit_top normals least_n offsets least_d
+unfolding emit_top
+cos16_below_emit_top m d normals least_n offsets least_d hm hd small_n small_d =
+    cos16_below m d (greatest_dot_of_boxes normals offsets) (least_n * least_d) (dot_below_greatest_of_boxes m d normals offsets hm hd) (mul-le least_n least_d (square m) (square d) small_n small_d)
+
 pub cosine_at_most-small : (along : ℤ) (squares : ℕ) → cosine_at_most along squares ≤ 65536
 unfolding cosine_at_most
 cosine_at_most-small along squares =
@@ -69,3 +83,7 @@ cosine_at_most-small along squares =
 pub cos_top-small : (n : Vec3) (box : Ends) (least : ℕ) → cos_top n box least ≤ 65536
 unfolding cos_top
 cos_top-small n box least = cosine_at_most-small (greatest_dot n box) (square n * least)
+
+pub emit_top-small : (normals : Ends) (least_n : ℕ) (offsets : Ends) (least_d : ℕ) → emit_top normals least_n offsets least_d ≤ 65536
+unfolding emit_top
+emit_top-small normals least_n offsets least_d = cosine_at_most-small (greatest_dot_of_boxes normals offsets) (least_n * least_d)

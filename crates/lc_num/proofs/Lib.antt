@@ -4,6 +4,7 @@ pub mod SquareLemmas
 pub mod ScaledLemmas
 pub mod CosineLemmas
 pub mod DifferenceLemmas
+pub mod ExtremeLemmas
 pub mod BoxLemmas
 pub mod CosineLaw
 pub mod BoxCode

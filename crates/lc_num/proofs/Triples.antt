@@ -1,10 +1,13 @@
--- Two vectors as six numbers, and the sizes of their products.
-use Rattle.std.proofs.Common.{ℕ, ◌*◌, ◌≤◌, arith, ℤ, List, [], ◌∷◌}
+-- Vectors as numbers: one as three, two as six, and the sizes of their products.
+use Rattle.std.proofs.Common.{◌≡◌, ℕ, ◌*◌, ◌≤◌, arith, ℤ, List, [], ◌∷◌}
 use Rattle.std.specs.Int.RustNames.{unsigned_abs}
 use Rattle.lc_num.specs.declared.vectors.Vec3.{Vec3}
 use Rattle.lc_num.specs.Vectors.{Within, dot}
 use Rattle.lc_algebra.proofs.Poly.{Expression, var, ◌⊕◌, ◌⊗◌}
 use Rattle.lc_algebra.proofs.Within.{AreWithin, none, more, within}
+
+pub same_vector : (x y z p q r : ℤ) → x ≡ p → y ≡ q → z ≡ r → ◌≡◌ {A = Vec3} (record { x = x; y = y; z = z }) (record { x = p; y = q; z = r })
+same_vector x y z p q r e f g = cc
 
 abbrev pub six : Vec3 → Vec3 → List ℤ
 six a b = a.x ∷ a.y ∷ a.z ∷ b.x ∷ b.y ∷ b.z ∷ []

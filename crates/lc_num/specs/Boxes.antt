@@ -55,3 +55,25 @@ cos_top n box least = cosine_at_most (greatest_dot n box) (square n * least)
 -- no cosine from n to a vector of the box whose squared length is at least `least` is above `top`
 abbrev pub BoundsCosines : Vec3 → Ends → ℕ → ℕ → Type 0
 BoundsCosines n box least top = (b : Vec3) → IsInside box b → least ≤ square b → cos16 n b ≤ top
+
+-- the greatest of the four products of an end of the one interval and an end of the other
+abbrev pub greatest_product : ℤ → ℤ → ℤ → ℤ → ℤ
+greatest_product a_lo a_hi b_lo b_hi =
+    int_max (int_max (a_lo *ℤ b_lo) (a_lo *ℤ b_hi)) (int_max (a_hi *ℤ b_lo) (a_hi *ℤ b_hi))
+
+-- the greatest dot product of a point of the one box and a point of the other
+unfoldable pub greatest_dot_of_boxes : Ends → Ends → ℤ
+greatest_dot_of_boxes a b =
+    greatest_product a.lo.x a.hi.x b.lo.x b.hi.x +ℤ greatest_product a.lo.y a.hi.y b.lo.y b.hi.y
+    +ℤ greatest_product a.lo.z a.hi.z b.lo.z b.hi.z
+
+-- a bound of `cos16` from the vectors of the first box to those of the second, where their squared lengths are at least
+-- `least_n` and `least_d`
+unfoldable pub emit_top : Ends → ℕ → Ends → ℕ → ℕ
+emit_top normals least_n offsets least_d = cosine_at_most (greatest_dot_of_boxes normals offsets) (least_n * least_d)
+
+-- no cosine from a vector of the first box to one of the second, of squared lengths of at least `least_n` and `least_d`,
+-- is above `top`
+abbrev pub BoundsEmission : Ends → ℕ → Ends → ℕ → ℕ → Type 0
+BoundsEmission normals least_n offsets least_d top =
+    (m d : Vec3) → IsInside normals m → IsInside offsets d → least_n ≤ square m → least_d ≤ square d → cos16 m d ≤ top

@@ -1,5 +1,6 @@
 -- Vectors of unbounded whole numbers.
 use Rattle.std.specs.Prelude.{ℕ, ◌≤◌, ℤ, pos, ◌+ℤ◌, ◌-ℤ◌, ◌*ℤ◌, unsigned_abs}
+use Rattle.std.specs.Int.{int_min, int_max}
 use Rattle.lc_num.specs.declared.vectors.Vec3.{Vec3}
 
 -- each component is at most `most` in absolute value
@@ -13,6 +14,13 @@ zero_vector = record { x = pos 0; y = pos 0; z = pos 0 }
 
 abbrev pub difference : Vec3 → Vec3 → Vec3
 difference a b = record { x = a.x -ℤ b.x; y = a.y -ℤ b.y; z = a.z -ℤ b.z }
+
+-- the lesser and the greater on each axis
+abbrev pub lesser : Vec3 → Vec3 → Vec3
+lesser a b = record { x = int_min a.x b.x; y = int_min a.y b.y; z = int_min a.z b.z }
+
+abbrev pub greater : Vec3 → Vec3 → Vec3
+greater a b = record { x = int_max a.x b.x; y = int_max a.y b.y; z = int_max a.z b.z }
 
 unfoldable pub dot : Vec3 → Vec3 → ℤ
 dot a b = a.x *ℤ b.x +ℤ a.y *ℤ b.y +ℤ a.z *ℤ b.z

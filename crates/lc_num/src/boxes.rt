@@ -1,8 +1,8 @@
 // Boxes along the axes: their least distance from a place, and bounds of cosines over them.
-ghost use Rattle.std.specs.Prelude.{◌≡◌, ℕ, ◌+◌, ◌*◌, ◌≤◌, ◌-ℤ◌, ◌*ℤ◌, ◌≤ℤ◌, unsigned_abs};
+ghost use Rattle.std.specs.Prelude.{◌≡◌, ℕ, ◌+◌, ◌*◌, ◌^◌, ◌≤◌, ◌-ℤ◌, ◌*ℤ◌, ◌≤ℤ◌, unsigned_abs};
 ghost use Rattle.std.specs.Int.{int_min, int_max};
 ghost use Rattle.lc_num.specs.Vectors.{Within, difference, square};
-ghost use Rattle.lc_num.specs.Boxes.{IsInside, IsBoxWithin, CanBound, near2, greatest_dot, cos_top, BoundsCosines};
+ghost use Rattle.lc_num.specs.Boxes.{IsInside, IsBoxWithin, CanBound, near2, greatest_dot, greatest_product, greatest_dot_of_boxes, cos_top, emit_top, BoundsCosines, BoundsEmission};
 ghost use Rattle.lc_num.specs.declared.vectors.Vec3.{Vec3};
 
 use crate::cosines::cosine_at_most;
@@ -91,4 +91,46 @@ pub fn cos_top(n: Vec3, span: Span3, least: u128) -> u32
     ensures bounds { BoundsCosines n span least result }
 {
     cosine_at_most(greatest_dot(n, span), short_square(n) as u128 * least)
+}
+
+/// The greatest of the four products of an end of the one interval and an end of the other.
+fn greatest_product(a_lo: i64, a_hi: i64, b_lo: i64, b_hi: i64) -> i64
+    requires a_lo { unsigned_abs a_lo ≤ 16384 }
+    requires a_hi { unsigned_abs a_hi ≤ 16384 }
+    requires b_lo { unsigned_abs b_lo ≤ 100_100_000 }
+    requires b_hi { unsigned_abs b_hi ≤ 100_100_000 }
+    ensures value { result ≡ greatest_product a_lo a_hi b_lo b_hi }
+    ensures most { unsigned_abs result ≤ 16384 * 100_100_000 }
+{
+    greater_product(a_lo, b_lo, b_hi).max(greater_product(a_hi, b_lo, b_hi))
+}
+
+/// The greatest dot product of a vector of the one box and a vector of the other.
+fn greatest_dot_of_boxes(a: Span3, b: Span3) -> i64
+    requires a { IsBoxWithin 16384 a }
+    requires b { IsBoxWithin 100_100_000 b }
+    ensures value { result ≡ greatest_dot_of_boxes a b }
+    ensures most { unsigned_abs result ≤ 3 * (16384 * 100_100_000) }
+{
+    greatest_product(a.lo.x, a.hi.x, b.lo.x, b.hi.x)
+        + greatest_product(a.lo.y, a.hi.y, b.lo.y, b.hi.y)
+        + greatest_product(a.lo.z, a.hi.z, b.lo.z, b.hi.z)
+}
+
+/// A bound of `cos16(m, d)` in 1/65536 for each normal `m` of a box whose squared length is at least `least_n`, and each
+/// offset `d` of another whose squared length is at least `least_d`. With N the sum over the axes of the greatest of the
+/// four products of an end of normals and an end of offsets, it is 0 where N is not positive, else 65536 where a least is
+/// 0, else the greatest k up to 65536 with `k^2 * least_n * least_d <= 2^32 * N^2`. The components of normals are at most
+/// 16384 and those of offsets at most 100,100,000, and each least is at most the greatest squared length that these
+/// allow.
+pub fn emit_top(normals: Span3, least_n: u128, offsets: Span3, least_d: u128) -> u32
+    requires normals { IsBoxWithin 16384 normals }
+    requires least_n { least_n ≤ 3 * 2 ^ 28 }
+    requires offsets { IsBoxWithin 100_100_000 offsets }
+    requires least_d { least_d ≤ 3 * (100_100_000 * 100_100_000) }
+    ensures value { result ≡ emit_top normals least_n offsets least_d }
+    ensures most { result ≤ 65536 }
+    ensures bounds { BoundsEmission normals least_n offsets least_d result }
+{
+    cosine_at_most(greatest_dot_of_boxes(normals, offsets), least_n * least_d)
 }

@@ -1,5 +1,5 @@
 // Products of vectors.
-ghost use Rattle.std.specs.Prelude.{◌≡◌, ◌*◌, ◌^◌, ℕ};
+ghost use Rattle.std.specs.Prelude.{◌≡◌, ℕ, ◌*◌, ◌^◌, ◌≤◌, ◌-ℤ◌, ◌*ℤ◌, unsigned_abs};
 ghost use Rattle.lc_num.specs.Vectors.{Within, cross, dot, square};
 
 use crate::vectors::Vec3;
@@ -38,6 +38,17 @@ pub fn short_square(v: Vec3) -> u64
     short_dot(v, v) as u64
 }
 
+/// The determinant of the rows `a b` and `c d`.
+fn determinant(a: i64, b: i64, c: i64, d: i64) -> i64
+    requires a { unsigned_abs a ≤ 2 ^ 30 }
+    requires b { unsigned_abs b ≤ 2 ^ 30 }
+    requires c { unsigned_abs c ≤ 2 ^ 30 }
+    requires d { unsigned_abs d ≤ 2 ^ 30 }
+    ensures { result ≡ a *ℤ d -ℤ b *ℤ c }
+{
+    a * d - b * c
+}
+
 /// The cross product `a x b`, at right angles to both vectors, in the product of their units. It is as long as the
 /// parallelogram of the two is large, and zero where they have one direction. The components are at most 2^30.
 pub fn cross(a: Vec3, b: Vec3) -> Vec3
@@ -47,8 +58,8 @@ pub fn cross(a: Vec3, b: Vec3) -> Vec3
     ensures within { (m n : ℕ) → Within m a → Within n b → Within (2 * (m * n)) result }
 {
     Vec3 {
-        x: a.y * b.z - a.z * b.y,
-        y: a.z * b.x - a.x * b.z,
-        z: a.x * b.y - a.y * b.x,
+        x: determinant(a.y, a.z, b.y, b.z),
+        y: determinant(a.z, a.x, b.z, b.x),
+        z: determinant(a.x, a.y, b.x, b.y),
     }
 }

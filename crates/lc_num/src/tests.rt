@@ -31,6 +31,41 @@ fn products(rt: HostRuntime) {
     let b = Vec3 { x: 4, y: 5, z: -6 };
     assert_eq!(rt; dot(a, b), -24);
     assert_eq!(rt; square(b), 77);
+    let at_right_angles = Vec3 {
+        x: -3,
+        y: 18,
+        z: 13,
+    };
+    assert_eq!(rt; cross(a, b), at_right_angles);
+    let other_way = Vec3 {
+        x: 3,
+        y: -18,
+        z: -13,
+    };
+    assert_eq!(rt; cross(b, a), other_way);
+    // Two vectors of one direction.
+    let twice = Vec3 { x: -2, y: 4, z: -6 };
+    assert_eq!(rt; cross(a, twice), Vec3 { x: 0, y: 0, z: 0 });
+    // At the limits: 2 * 2^60.
+    let far = 1_073_741_824;
+    let down = Vec3 {
+        x: 0,
+        y: far,
+        z: -far,
+    };
+    let up = Vec3 {
+        x: 0,
+        y: far,
+        z: far,
+    };
+    assert_eq!(rt;
+        cross(down, up),
+        Vec3 {
+            x: 2_305_843_009_213_693_952,
+            y: 0,
+            z: 0
+        }
+    );
 }
 
 #[test]
@@ -260,4 +295,96 @@ fn cosine_bounds(rt: HostRuntime) {
     };
     // 2^32 * 2^28 / 10^16 is 115 and a part.
     assert_eq!(rt; cos_top(long, wide, 10_000_000_000_000_000), 10);
+}
+
+#[test]
+fn emission_bounds(rt: HostRuntime) {
+    let normals = Span3 {
+        lo: Vec3 { x: -3, y: -1, z: 4 },
+        hi: Vec3 { x: 2, y: 1, z: 4 },
+    };
+    let offsets = Span3 {
+        lo: Vec3 { x: -2, y: 5, z: -1 },
+        hi: Vec3 { x: -1, y: 6, z: 3 },
+    };
+    // The greatest products are 6, 6 and 12: 24 / sqrt(25 * 36), 24 / sqrt(577), and 24 / sqrt(576) or more.
+    assert_eq!(rt; emit_top(normals, 25, offsets, 36), 52428);
+    assert_eq!(rt; emit_top(normals, 1, offsets, 577), 65479);
+    assert_eq!(rt; emit_top(normals, 24, offsets, 24), 65536);
+    assert_eq!(rt; emit_top(normals, 1, offsets, 575), 65536);
+    assert_eq!(rt; emit_top(normals, 0, offsets, 36), 65536);
+    assert_eq!(rt; emit_top(normals, 25, offsets, 0), 65536);
+    // Offsets behind the normals, and at right angles to them.
+    let up = Span3 {
+        lo: Vec3 { x: 0, y: 0, z: 3 },
+        hi: Vec3 { x: 0, y: 0, z: 4 },
+    };
+    let behind = Span3 {
+        lo: Vec3 {
+            x: -9,
+            y: -9,
+            z: -2,
+        },
+        hi: Vec3 { x: 9, y: 9, z: -1 },
+    };
+    let aside = Span3 {
+        lo: Vec3 {
+            x: -9,
+            y: -9,
+            z: -2,
+        },
+        hi: Vec3 { x: 9, y: 9, z: 0 },
+    };
+    assert_eq!(rt; emit_top(up, 9, behind, 1), 0);
+    assert_eq!(rt; emit_top(up, 0, behind, 0), 0);
+    assert_eq!(rt; emit_top(up, 9, aside, 0), 0);
+}
+
+#[test]
+fn emission_bounds_at_the_limits(rt: HostRuntime) {
+    let normals = Span3 {
+        lo: Vec3 {
+            x: -16384,
+            y: -16384,
+            z: -16384,
+        },
+        hi: Vec3 {
+            x: 16384,
+            y: 16384,
+            z: 16384,
+        },
+    };
+    let far = 100_100_000;
+    let everywhere = Span3 {
+        lo: Vec3 {
+            x: -far,
+            y: -far,
+            z: -far,
+        },
+        hi: Vec3 {
+            x: far,
+            y: far,
+            z: far,
+        },
+    };
+    let along = Span3 {
+        lo: Vec3 {
+            x: -far,
+            y: 0,
+            z: 0,
+        },
+        hi: Vec3 { x: far, y: 0, z: 0 },
+    };
+    // The least squared length is that of the longest offset: the cosine is 1, and 1 / 3 along one axis.
+    let longest = 30_060_030_000_000_000;
+    assert_eq!(rt; emit_top(normals, 805_306_368, everywhere, longest), 65536);
+    assert_eq!(rt; emit_top(normals, 805_306_368, along, longest), 21845);
+}
+
+#[test]
+fn extremes(rt: HostRuntime) {
+    let a = Vec3 { x: 1, y: -2, z: 3 };
+    let b = Vec3 { x: -4, y: 5, z: 3 };
+    assert_eq!(rt; lesser(a, b), Vec3 { x: -4, y: -2, z: 3 });
+    assert_eq!(rt; greater(a, b), Vec3 { x: 1, y: 5, z: 3 });
 }

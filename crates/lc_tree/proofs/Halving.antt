@@ -6,8 +6,8 @@ use Rattle.std.proofs.lemmas.List.Sorted.{IsPermutation-refl, IsPermutation-map,
 use Rattle.std.specs.Prelude.{IsPermutation}
 use Rattle.lc_terms.specs.Kind.{Meaning}
 use Rattle.lc_tree.specs.declared.numbered.Numbered.{Numbered}
-use Rattle.lc_tree.specs.Node.{Node, Kept, leaf, fork, leader, leader_number, numbers}
-use Rattle.lc_tree.specs.Rows.{IsTree, IsTreeIf, IsNumbered, IsLed}
+use Rattle.lc_tree.specs.Node.{Node, leaf, fork, leader, leader_number, numbers}
+use Rattle.lc_tree.specs.Rows.{IsTreeIf, IsNumbered, IsLed}
 use Rattle.lc_tree.specs.Build.{takes_left, weight_of, forked, halved, put_in_order, in_order, comes_before, longest_axis, numbered, tree_of}
 use Rattle.lc_tree.specs.Grown.{StandsIn}
 use Rattle.lc_tree.proofs.NodeLaws.{numbered_leader}

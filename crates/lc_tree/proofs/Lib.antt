@@ -1,6 +1,5 @@
 pub mod Cover
 pub mod Drawing
-pub mod Extents
 pub mod Growing
 pub mod Halving
 pub mod Members

@@ -1,10 +1,9 @@
 -- The tree of a list of lights by halving.
 use Rattle.std.specs.Prelude.{ℕ, zero, suc, ◌+◌, ◌*◌, ◌/◌, ◌^◌, ◌==◌, nat_lt, ◌||◌, ◌&&◌, Bool, if◌then◌else◌, List, [], ◌∷◌, length, take, drop, map, Option, None, Some, ℤ}
-use Rattle.std.specs.Int.{int_min, int_max}
 use Rattle.std.specs.Int.RustNames.{int_le}
 use Rattle.std.specs.List.{fold, enumerate_from}
 use Rattle.std.specs.Ordering.{int_cmp, nat_cmp, ordering_then, is_lt}
-use Rattle.lc_num.specs.Vectors.{difference, zero_vector}
+use Rattle.lc_num.specs.Vectors.{difference, greater, lesser, zero_vector}
 use Rattle.lc_num.specs.declared.channels.Power.{Power}
 use Rattle.lc_num.specs.declared.vectors.Vec3.{Vec3}
 use Rattle.lc_terms.specs.Kind.{Meaning}
@@ -18,13 +17,6 @@ coordinate X v = v.x
 coordinate Y v = v.y
 coordinate Z v = v.z
 
--- the greater and the lesser of each coordinate
-abbrev pub vector_max : Vec3 → Vec3 → Vec3
-vector_max a b = record { x = int_max a.x b.x; y = int_max a.y b.y; z = int_max a.z b.z }
-
-abbrev pub vector_min : Vec3 → Vec3 → Vec3
-vector_min a b = record { x = int_min a.x b.x; y = int_min a.y b.y; z = int_min a.z b.z }
-
 -- the axis of the longest extent, ties going to x, then y
 abbrev pub longest : Vec3 → Axis
 longest v = if int_le v.y v.x && int_le v.z v.x then X else if int_le v.z v.y then Y else Z
@@ -32,10 +24,10 @@ longest v = if int_le v.y v.x && int_le v.z v.x then X else if int_le v.z v.y th
 module _ {L : Type 0} where
   -- the greatest and the least coordinates among a place and those of lights
   abbrev pub greatest : Vec3 → List (Numbered L) → Vec3
-  greatest place es = fold (λ most e. vector_max most e.place) place es
+  greatest place es = fold (λ most e. greater most e.place) place es
 
   abbrev pub least : Vec3 → List (Numbered L) → Vec3
-  least place es = fold (λ most e. vector_min most e.place) place es
+  least place es = fold (λ most e. lesser most e.place) place es
 
   -- on each axis the greatest less the least coordinate of the lights' places
   abbrev pub extents : List (Numbered L) → Vec3

@@ -2,10 +2,10 @@
 ghost use Rattle.std.specs.Prelude.{◌≡◌, ◌<◌, ◌≤◌, All, length, IsPermutation};
 ghost use Rattle.std.specs.List.Sorted.{IsSortedBy};
 ghost use Rattle.lc_num.specs.Vectors.{Within};
-ghost use Rattle.lc_tree.specs.Build.{comes_before, extents, longest, longest_axis, vector_max, vector_min};
+ghost use Rattle.lc_tree.specs.Build.{comes_before, extents, longest, longest_axis};
 
 use crate::axis::Axis;
-use lc_num::{Vec3, difference};
+use lc_num::{Vec3, difference, greater, lesser};
 
 /// A light with its number and its place.
 #[derive(Clone, Copy)]
@@ -13,32 +13,6 @@ pub(crate) struct Numbered<L> {
     pub(crate) number: u32,
     pub(crate) place: Vec3,
     pub(crate) light: L,
-}
-
-fn greater(a: Vec3, b: Vec3) -> Vec3
-    requires a { Within 50_000_000 a }
-    requires b { Within 50_000_000 b }
-    ensures value { result ≡ vector_max a b }
-    ensures within { Within 50_000_000 result }
-{
-    Vec3 {
-        x: a.x.max(b.x),
-        y: a.y.max(b.y),
-        z: a.z.max(b.z),
-    }
-}
-
-fn lesser(a: Vec3, b: Vec3) -> Vec3
-    requires a { Within 50_000_000 a }
-    requires b { Within 50_000_000 b }
-    ensures value { result ≡ vector_min a b }
-    ensures within { Within 50_000_000 result }
-{
-    Vec3 {
-        x: a.x.min(b.x),
-        y: a.y.min(b.y),
-        z: a.z.min(b.z),
-    }
 }
 
 /// On each axis the greatest less the least coordinate of the lights' places.

@@ -1,0 +1,6 @@
+use Rattle.std.proofs.Common.{◌≡◌, ◌+◌, ◌%◌, ◌^◌, sum_by, take}
+use Rattle.bench_bound.specs.Sums.{oriented_sum}
+use Rattle.bench_bound.proofs.rounds.add_oriented_tops.Given as goal
+
+abbrev pub invariant-loop-case : goal.invariant-loop-case
+invariant-loop-case l = l.total ≡ (l.sum + sum_by oriented_sum (take l.case-index l.cases)) % 2 ^ 128

@@ -7,7 +7,9 @@ pub mod Hull
 pub mod Reach
 pub mod Omni
 pub mod Oriented
+pub mod Sun
 pub mod HullLaws
 pub mod ReachLaws
 pub mod OmniLaws
 pub mod OrientedLaws
+pub mod SunLaws

@@ -5,6 +5,8 @@ mod hull;
 mod omni;
 mod oriented;
 mod reach;
+mod sun;
 
 pub use omni::{OmniClump, OmniKind};
 pub use oriented::{OrientedClump, OrientedKind};
+pub use sun::{SunClump, SunKind};

@@ -2,6 +2,11 @@ pub mod DigitLemmas
 pub mod SpellingLemmas
 pub mod FieldLemmas
 pub mod LineLemmas
-pub mod LightLemmas
+pub mod ValueLemmas
+pub mod SourceLemmas
+pub mod AreaLemmas
+pub mod LineRanges
+pub mod SampleLemmas
 pub mod ReadLemmas
 pub mod ValidLights
+pub mod ShareLemmas

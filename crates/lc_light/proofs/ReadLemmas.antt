@@ -1,54 +1,79 @@
 -- The lines seen so far, and what they say of the text.
-use Rattle.std.proofs.Common.{◌≡◌, ℕ, ◌<◌, ◌≤◌, Bool, true, false, cond, List, [], ◌∷◌, ◌++◌, length, Option, Some, None, refl, sym, ap, ◌∙◌, append_assoc, arith, length-append}
-use Rattle.std.specs.Prelude.{filter, All}
-use Rattle.std.proofs.lemmas.List.{append-nil, map_push}
-use Rattle.std.proofs.lemmas.List.Elements.{All-push}
+use Rattle.std.proofs.Common.{◌≡◌, ℕ, ◌+◌, ◌<◌, ◌≤◌, Bool, true, false, cond, List, [], ◌∷◌, ◌++◌, length, Option, Some, None, refl, sym, ap, ◌∙◌, append_assoc, arith, add-zero, length-append, subst}
+use Rattle.std.specs.Prelude.{filter, filter_map, flat_map, sum_by}
+use Rattle.std.specs.List.{cons_option}
+use Rattle.std.proofs.lemmas.List.{append-nil, flat_map_more}
+use Rattle.std.proofs.lemmas.List.Elements.{filter_map-append}
+use Rattle.std.proofs.lemmas.List.Sums.{sum_by_push}
 use Rattle.std.proofs.lemmas.Bool.{lt-ltb, le-ltb}
+use Rattle.lc_words.specs.Lcg.{Lcg}
+use Rattle.lc_words.specs.Words.{after, word_of, stream_of, stream_word}
+use Rattle.lc_words.proofs.WordLaws.{later}
+use Rattle.lc_light.specs.Areas.{samples_from}
 use Rattle.lc_light.specs.Lines.{Line, lines}
 use Rattle.lc_light.specs.Fields.{fields}
 use Rattle.lc_light.specs.Kinds.{kind_number}
-use Rattle.lc_light.specs.Lights.{IsOmni, AreLights}
-use Rattle.lc_light.specs.LightLine.{kind_of, light}
-use Rattle.lc_light.specs.LightFile.{is_spoken, omni_lights, spoken, fault_of, fault_then, first_fault, fault_in, lights}
+use Rattle.lc_light.specs.LightLine.{kind_of, source_of}
+use Rattle.lc_light.specs.Sources.{count, points, samples, suns, lights_of}
+use Rattle.lc_light.specs.LightFile.{is_spoken, sources, spoken, fault_of, fault_then, first_fault, fault_in, lights}
+use Rattle.lc_light.specs.declared.area.Area.{Area}
 use Rattle.lc_light.specs.declared.lights.Omni.{Omni}
 use Rattle.lc_light.specs.declared.lights.Oriented.{Oriented}
 use Rattle.lc_light.specs.declared.lights.Sun.{Sun}
+use Rattle.lc_light.specs.declared.lights.Lights.{Lights}
 use Rattle.lc_light.specs.declared.kind.Kind.{Kind}
+use Rattle.lc_light.specs.declared.source.Source.{Source}
+use Rattle.lc_light.proofs.SampleLemmas.{samples_after, samples_later, no_samples}
+
+-- the lights of sources that have been read, and the words that their samples have taken
+pub record Gathered (g : Lcg) (found : List Source) (held : Lights) (words : Lcg) : Type 0 where
+  pub omni : held.omni ≡ flat_map points found
+  pub oriented : held.oriented ≡ samples_from (word_of g) 0 (flat_map samples found)
+  pub sun : held.sun ≡ flat_map suns found
+  pub taken : words ≡ after g (length (flat_map samples found))
 
 -- the lines seen, and what they and the rest say of the text
-pub record Progress (text : List ℕ) (rest : List Line) (omni : List Omni) : Type 0 where
+pub record Progress (text : List ℕ) (seed : ℕ) (rest : List Line) (held : Lights) (words : Lcg) (so_far : ℕ) : Type 0 where
   pub seen : List Line
-  pub omni_is : omni ≡ omni_lights seen
+  pub gathered : Gathered (stream_of seed 3) (sources seen) held words
+  pub so_far_is : so_far ≡ sum_by count (sources seen)
   pub fault_is : fault_in text ≡ first_fault seen (filter is_spoken rest)
   pub spoken_is : spoken text ≡ seen ++ filter is_spoken rest
-  pub in_range : All IsOmni omni
-  pub few : length omni ≤ 1000
+  pub few : so_far ≤ 65536
 
-begins : (text : List ℕ) → Progress text (lines text) []
+nothing : (g words : Lcg) (omni : List Omni) (oriented : List Oriented) (sun : List Sun) → omni ≡ [] → oriented ≡ [] → sun ≡ [] → words ≡ g → Gathered g [] (record { omni = omni; oriented = oriented; sun = sun }) words
+nothing g words omni oriented sun e f h w = record { omni = e; oriented = f ∙ no_samples (word_of g) [] [] refl; sun = h; taken = w }
+
+pub start : (text : List ℕ) (seed : ℕ) (rest : List Line) (omni : List Omni) (oriented : List Oriented) (sun : List Sun) (words : Lcg) → rest ≡ lines text → omni ≡ [] → oriented ≡ [] → sun ≡ [] → words ≡ stream_of seed 3
+    → Progress text seed rest (record { omni = omni; oriented = oriented; sun = sun }) words 0
 unfolding fault_in
-begins text = record { seen = []; omni_is = refl; fault_is = refl; spoken_is = refl; in_range = λ k d lt. absurd (omega arith); few = omega arith }
-
-pub start : (text : List ℕ) (rest : List Line) (omni : List Omni) → rest ≡ lines text → omni ≡ [] → Progress text rest omni
-start text rest omni e f = rw (e, f) (begins text)
+start text seed rest omni oriented sun words e f g h w = record {
+  seen = [];
+  gathered = nothing (stream_of seed 3) words omni oriented sun f g h w;
+  so_far_is = refl;
+  fault_is = ap (λ (ls : List Line). first_fault [] (filter is_spoken ls)) (sym e);
+  spoken_is = ap (λ (ls : List Line). filter is_spoken ls) (sym e);
+  few = omega arith;
+}
 
 filter_cond : (l : Line) (later : List Line) (b : Bool) → is_spoken l ≡ b → filter is_spoken (l ∷ later) ≡ cond b (l ∷ filter is_spoken later) (filter is_spoken later)
 filter_cond l later b e = ap (λ (x : Bool). cond x (l ∷ filter is_spoken later) (filter is_spoken later)) e
 
-pub passes_over : (text : List ℕ) (l : Line) (rest later : List Line) (omni : List Omni) → rest ≡ l ∷ later → length (fields l.bytes) ≡ 0 → Progress text rest omni → Progress text later omni
-passes_over text l rest later omni e none p =
+pub passes_over : (text : List ℕ) (seed : ℕ) (l : Line) (rest later : List Line) (held : Lights) (words : Lcg) (so_far : ℕ) → rest ≡ l ∷ later → length (fields l.bytes) ≡ 0 → Progress text seed rest held words so_far → Progress text seed later held words so_far
+passes_over text seed l rest later held words so_far e none p =
     let f : filter is_spoken rest ≡ filter is_spoken later = ap (λ (ls : List Line). filter is_spoken ls) e ∙ filter_cond l later false (le-ltb 0 (length (fields l.bytes)) (omega arith)) in
     record {
       seen = p.seen;
-      omni_is = p.omni_is;
+      gathered = p.gathered;
+      so_far_is = p.so_far_is;
       fault_is = p.fault_is ∙ ap (λ (ls : List Line). first_fault p.seen ls) f;
       spoken_is = p.spoken_is ∙ ap (λ (ls : List Line). p.seen ++ ls) f;
-      in_range = p.in_range;
       few = p.few;
     }
 
 -- the line's own fault, after the lights so far
-own_fault : (l : Line) (seen : List Line) (omni : List Omni) (o : Option Kind) → omni ≡ omni_lights seen → kind_of (length omni) (fields l.bytes) ≡ o → fault_of seen l ≡ o
-own_fault l seen omni o e k = ap (λ (xs : List Omni). kind_of (length xs) (fields l.bytes)) (sym e) ∙ k
+own_fault : (l : Line) (seen : List Line) (so_far : ℕ) (o : Option Kind) → so_far ≡ sum_by count (sources seen) → kind_of so_far (fields l.bytes) ≡ o → fault_of seen l ≡ o
+own_fault l seen so_far o e k = ap (λ (n : ℕ). kind_of n (fields l.bytes)) (sym e) ∙ k
 
 next_spoken : (l : Line) (rest later : List Line) → rest ≡ l ∷ later → 0 < length (fields l.bytes) → filter is_spoken rest ≡ l ∷ filter is_spoken later
 next_spoken l rest later e some = ap (λ (ls : List Line). filter is_spoken ls) e ∙ filter_cond l later true (lt-ltb 0 (length (fields l.bytes)) some)
@@ -61,46 +86,72 @@ no_fault : (seen : List Line) → first_fault seen [] ≡ None
 unfolding first_fault
 no_fault seen = refl
 
-grows : (text : List ℕ) (l : Line) (rest later : List Line) (omni : List Omni) (new : Omni) → rest ≡ l ∷ later → 0 < length (fields l.bytes) → kind_of (length omni) (fields l.bytes) ≡ None → light (fields l.bytes) ≡ new
-    → IsOmni new → length omni < 1000 → Progress text rest omni → Progress text later (omni ++ new ∷ [])
-grows text l rest later omni new e some k made range room p =
-    let f = next_spoken l rest later e some in
+pub one_source_more : (seen : List Line) (l : Line) (found : Source) → source_of (fields l.bytes) ≡ Some found → sources (seen ++ l ∷ []) ≡ sources seen ++ found ∷ []
+one_source_more seen l found e =
+    filter_map-append (λ (m : Line). source_of (fields m.bytes)) seen (l ∷ []) ∙ ap (λ (o : Option Source). sources seen ++ cons_option o []) e
+
+-- the lights that one more source gives
+pub record Added (held : Lights) (words : Lcg) (found : Source) (more : Lights) (left : Lcg) : Type 0 where
+  pub omni : more.omni ≡ held.omni ++ points found
+  pub oriented : more.oriented ≡ held.oriented ++ samples_from (word_of words) 0 (samples found)
+  pub sun : more.sun ≡ held.sun ++ suns found
+  pub taken : left ≡ after words (length (samples found))
+
+gathers : (g : Lcg) (ss : List Source) (held more : Lights) (words left : Lcg) (found : Source) → Gathered g ss held words → Added held words found more left → Gathered g (ss ++ found ∷ []) more left
+gathers g ss held more words left found h a =
+    let before = flat_map samples ss in
+    let own = samples found in
+    let joined : before ++ own ≡ flat_map samples (ss ++ found ∷ []) = flat_map_more samples [] ss found in
+    let placed : samples_from (word_of words) 0 own ≡ samples_from (word_of g) (length before) own =
+    ap (λ (w : Lcg). samples_from (word_of w) 0 own) h.taken ∙ samples_later g (length before) 0 (length before) own (add-zero (length before)) in
     record {
-      seen = p.seen ++ l ∷ [];
-      omni_is = ap (λ (xs : List Omni). xs ++ new ∷ []) p.omni_is ∙ ap (λ (x : Omni). omni_lights p.seen ++ x ∷ []) (sym made) ∙ sym (map_push (λ (m : Line). light (fields m.bytes)) p.seen l);
-      fault_is = p.fault_is ∙ ap (λ (ls : List Line). first_fault p.seen ls) f ∙ next_fault l p.seen (filter is_spoken later) None (own_fault l p.seen omni None p.omni_is k);
-      spoken_is = p.spoken_is ∙ ap (λ (ls : List Line). p.seen ++ ls) f ∙ sym (append_assoc p.seen (l ∷ []) (filter is_spoken later));
-      in_range = All-push IsOmni omni new p.in_range range;
-      few = omega (arith, length-append omni (new ∷ []));
+      omni = a.omni ∙ ap (λ (ls : List Omni). ls ++ points found) h.omni ∙ flat_map_more points [] ss found;
+      oriented = a.oriented ∙ ap (λ (ls : List Oriented). ls ++ samples_from (word_of words) 0 own) h.oriented ∙ ap (λ (ls : List Oriented). samples_from (word_of g) 0 before ++ ls) placed
+          ∙ sym (samples_after (word_of g) 0 (length before) before own (omega arith)) ∙ ap (λ (xs : List (Area × ℕ)). samples_from (word_of g) 0 xs) joined;
+      sun = a.sun ∙ ap (λ (ls : List Sun). ls ++ suns found) h.sun ∙ flat_map_more suns [] ss found;
+      taken = later g words left (length before) (length own) _ h.taken a.taken (sym (ap (λ (xs : List (Area × ℕ)). length xs) joined) ∙ length-append before own);
     }
 
--- what the judge of a line says where it is a light
-pub record Judged (l : Line) (so_far : ℕ) (new : Omni) : Type 0 where
-  pub value : (kind_of so_far (fields l.bytes) ≡ None) × (light (fields l.bytes) ≡ new)
-  pub range : IsOmni new
-  pub room : so_far < 1000
+-- what the judge of a line says where it names a source
+pub record Judged (l : Line) (so_far : ℕ) (found : Source) : Type 0 where
+  pub kind : kind_of so_far (fields l.bytes) ≡ None
+  pub source : source_of (fields l.bytes) ≡ Some found
+  pub room : so_far + count found ≤ 65536
 
-pub takes : (text : List ℕ) (l : Line) (rest later : List Line) (omni after : List Omni) (n : ℕ) (new : Omni) → rest ≡ l ∷ later → 0 < length (fields l.bytes) → n ≡ length omni → Judged l n new → after ≡ omni ++ new ∷ []
-    → Progress text rest omni → Progress text later after
-takes text l rest later omni after n new e some c j a p =
-    let k : kind_of (length omni) (fields l.bytes) ≡ None = ap (λ (m : ℕ). kind_of m (fields l.bytes)) (sym c) ∙ j.value.0 in
-    let room : length omni < 1000 = omega (arith, c, j.room) in
-    rw a (grows text l rest later omni new e some k j.value.1 j.range room p)
+pub takes : (text : List ℕ) (seed : ℕ) (l : Line) (rest later : List Line) (held more : Lights) (words left : Lcg) (so_far now : ℕ) (found : Source) → rest ≡ l ∷ later → 0 < length (fields l.bytes) → Judged l so_far found → Added held words found more left → now ≡ so_far + count found
+    → Progress text seed rest held words so_far → Progress text seed later more left now
+takes text seed l rest later held more words left so_far now found e some j a n p =
+    let f = next_spoken l rest later e some in
+    let grown : sources (p.seen ++ l ∷ []) ≡ sources p.seen ++ found ∷ [] = one_source_more p.seen l found j.source in
+    record {
+      seen = p.seen ++ l ∷ [];
+      gathered = subst (λ (ss : List Source). Gathered (stream_of seed 3) ss more left) (sym grown) (gathers (stream_of seed 3) (sources p.seen) held more words left found p.gathered a);
+      so_far_is = n ∙ ap (λ (m : ℕ). m + count found) p.so_far_is ∙ sym (ap (λ (ss : List Source). sum_by count ss) grown ∙ sum_by_push count (sources p.seen) found);
+      fault_is = p.fault_is ∙ ap (λ (ls : List Line). first_fault p.seen ls) f ∙ next_fault l p.seen (filter is_spoken later) None (own_fault l p.seen so_far None p.so_far_is j.kind);
+      spoken_is = p.spoken_is ∙ ap (λ (ls : List Line). p.seen ++ ls) f ∙ sym (append_assoc p.seen (l ∷ []) (filter is_spoken later));
+      few = omega (arith, n, j.room);
+    }
 
-pub stops : (text : List ℕ) (l : Line) (rest later : List Line) (omni : List Omni) (n shown : ℕ) (kind : Kind) → rest ≡ l ∷ later → 0 < length (fields l.bytes) → n ≡ length omni → kind_of n (fields l.bytes) ≡ Some kind → shown ≡ kind_number kind
-    → Progress text rest omni → fault_in text ≡ Some (record { line = l.number; kind = shown })
-stops text l rest later omni n shown kind e some c k s p =
-    let own = own_fault l p.seen omni (Some kind) p.omni_is (ap (λ (m : ℕ). kind_of m (fields l.bytes)) (sym c) ∙ k) in
+pub stops : (text : List ℕ) (seed : ℕ) (l : Line) (rest later : List Line) (held : Lights) (words : Lcg) (so_far shown : ℕ) (kind : Kind) → rest ≡ l ∷ later → 0 < length (fields l.bytes) → kind_of so_far (fields l.bytes) ≡ Some kind → shown ≡ kind_number kind
+    → Progress text seed rest held words so_far → fault_in text ≡ Some (record { line = l.number; kind = shown })
+stops text seed l rest later held words so_far shown kind e some k s p =
+    let own = own_fault l p.seen so_far (Some kind) p.so_far_is k in
     p.fault_is ∙ ap (λ (ls : List Line). first_fault p.seen ls) (next_spoken l rest later e some) ∙ next_fault l p.seen (filter is_spoken later) (Some kind) own
     ∙ ap (λ (m : ℕ). Some (record { line = l.number; kind = m })) (sym s)
 
-pub ends : (text : List ℕ) (seed : ℕ) (rest : List Line) (omni : List Omni) (oriented : List Oriented) (sun : List Sun) → rest ≡ [] → oriented ≡ [] → sun ≡ [] → Progress text rest omni
-    → (fault_in text ≡ None) × (record { omni = omni; oriented = oriented; sun = sun } ≡ lights text seed)
-unfolding lights
-ends text seed rest omni oriented sun e f g p =
-    let none : filter is_spoken rest ≡ [] = ap (λ (ls : List Line). filter is_spoken ls) e in
-    let all : omni ≡ omni_lights (spoken text) = p.omni_is ∙ ap omni_lights (sym (p.spoken_is ∙ ap (λ (ls : List Line). p.seen ++ ls) none ∙ append-nil p.seen)) in
-    (p.fault_is ∙ ap (λ (ls : List Line). first_fault p.seen ls) none ∙ no_fault p.seen, rw (f, g, all) refl)
+same_lights : (omni omni' : List Omni) (oriented oriented' : List Oriented) (sun sun' : List Sun) → omni ≡ omni' → oriented ≡ oriented' → sun ≡ sun'
+    → ◌≡◌ {A = Lights} (record { omni = omni; oriented = oriented; sun = sun }) (record { omni = omni'; oriented = oriented'; sun = sun' })
+same_lights omni omni' oriented oriented' sun sun' e f g = cc
 
-pub valid : (text : List ℕ) (rest : List Line) (omni : List Omni) (oriented : List Oriented) (sun : List Sun) → oriented ≡ [] → sun ≡ [] → Progress text rest omni → AreLights (record { omni = omni; oriented = oriented; sun = sun })
-valid text rest omni oriented sun f g p = rw (f, g) (record { omni = p.in_range; oriented = λ k d lt. absurd (omega arith); sun = λ k d lt. absurd (omega arith); count = omega (arith, p.few) })
+gathered_lights : (seed : ℕ) (ss : List Source) (held : Lights) (words : Lcg) → Gathered (stream_of seed 3) ss held words → held ≡ lights_of (stream_word seed 3) ss
+unfolding lights_of
+gathered_lights seed ss held words h = same_lights held.omni _ held.oriented _ held.sun _ h.omni h.oriented h.sun
+
+pub ends : (text : List ℕ) (seed : ℕ) (rest : List Line) (held : Lights) (words : Lcg) (so_far : ℕ) → rest ≡ [] → Progress text seed rest held words so_far → (fault_in text ≡ None) × (held ≡ lights text seed)
+unfolding lights
+ends text seed rest held words so_far e p =
+    let none : filter is_spoken rest ≡ [] = ap (λ (ls : List Line). filter is_spoken ls) e in
+    let all : p.seen ≡ spoken text = sym (p.spoken_is ∙ ap (λ (ls : List Line). p.seen ++ ls) none ∙ append-nil p.seen) in (
+      p.fault_is ∙ ap (λ (ls : List Line). first_fault p.seen ls) none ∙ no_fault p.seen,
+      gathered_lights seed (sources p.seen) held words p.gathered ∙ ap (λ (ls : List Line). lights_of (stream_word seed 3) (sources ls)) all,
+    )

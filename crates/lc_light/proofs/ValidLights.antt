@@ -1,93 +1,147 @@
 -- The lights of a text without a fault are within their ranges.
-use Rattle.std.proofs.Common.{◌≡◌, ℕ, ◌+◌, ◌<◌, ◌≤◌, Bool, true, false, cond, List, [], ◌∷◌, ◌++◌, length, Option, Some, None, refl, sym, ap, subst, ◌∙◌, append_assoc, arith, length-append, ℤ, pos, negsuc, unsigned_abs, nat_le, nat_lt}
-use Rattle.std.specs.Prelude.{All, map}
-use Rattle.std.proofs.lemmas.List.{append-nil, map_push}
-use Rattle.std.proofs.lemmas.List.Elements.{All-push, All-nil}
-use Rattle.std.proofs.lemmas.Bool.Decides.{nat_tests}
-use Rattle.lc_num.specs.Vectors.{Within}
+use Rattle.std.proofs.Common.{◌≡◌, ℕ, suc, ◌+◌, ◌*◌, ◌/◌, ◌%◌, ◌^◌, ◌<◌, ◌≤◌, Bool, true, false, cond, List, [], ◌∷◌, ◌++◌, length, map, Option, Some, None, refl, sym, ap, subst, ◌∙◌, append_assoc, arith, length-append, add-zero, nat_lt, le_trans}
+use Rattle.std.specs.Prelude.{All, filter_map, flat_map, sum_by}
+use Rattle.std.specs.List.{cons_option, range_with_len}
+use Rattle.std.proofs.lemmas.List.{append-nil}
+use Rattle.std.proofs.lemmas.List.Elements.{All-push, All-nil, All-append, All-cons, All-map, filter_map-append}
+use Rattle.std.proofs.lemmas.List.Sums.{sum_by_push, sum_by-cons}
+use Rattle.std.proofs.lemmas.Bool.{ltb-true}
+use Rattle.std.proofs.Math.Nat.{mul-le-mul_left}
+use Rattle.std.proofs.lemmas.List.FromFn.{length-map-range_with_len}
 use Rattle.lc_num.specs.Channels.{IsPowerWithin}
+use Rattle.lc_num.proofs.ScaledLemmas.{scaled_within}
+use Rattle.lc_num.specs.Vectors.{cross}
+use Rattle.lc_words.specs.Words.{stream_of, stream_word}
+use Rattle.lc_words.proofs.WordLaws.{word_small}
+use Rattle.lc_num.specs.Faults.{Fault}
 use Rattle.lc_light.specs.Lines.{Line}
 use Rattle.lc_light.specs.Fields.{fields}
-use Rattle.lc_light.specs.Kinds.{kind_number}
-use Rattle.lc_light.specs.Lights.{IsOmni, AreLights}
-use Rattle.lc_light.specs.LightLine.{kind_of, light, units, number, coordinate_test, intensity_test, room_test, keyword_test, count_test, first_kind}
-use Rattle.lc_light.specs.LightFile.{omni_lights, spoken, fault_of, fault_then, first_fault, fault_in, lights}
+use Rattle.lc_light.specs.Areas.{IsArea, numbered, normal, sample, samples_from, share}
+use Rattle.lc_light.specs.Lights.{IsOmni, IsOriented, IsSun, AreLights}
+use Rattle.lc_light.specs.LightLine.{kind_of, source_of}
+use Rattle.lc_light.specs.LightFile.{sources, spoken, fault_of, fault_then, first_fault, fault_in, lights}
+use Rattle.lc_light.specs.Sources.{IsSource, count, points, samples, suns, lights_of}
+use Rattle.lc_light.specs.declared.area.Area.{Area}
 use Rattle.lc_light.specs.declared.lights.Omni.{Omni}
+use Rattle.lc_light.specs.declared.lights.Oriented.{Oriented}
+use Rattle.lc_light.specs.declared.lights.Sun.{Sun}
 use Rattle.lc_light.specs.declared.kind.Kind.{Kind}
-use Rattle.lc_num.specs.Faults.{Fault}
+use Rattle.lc_light.specs.declared.source.Source.{Source}
+use Rattle.lc_light.specs.declared.source.Source.TheVariants as source
+use Rattle.lc_light.proofs.AreaLemmas.{place_by_within}
+use Rattle.lc_light.proofs.LineRanges.{Fine, fine}
+use Rattle.lc_light.proofs.ReadLemmas.{one_source_more}
 
-passed : (test : Option Kind) (later : List (Option Kind)) → first_kind (test ∷ later) ≡ None → (test ≡ None) × (first_kind later ≡ None)
-passed None later h = (refl, h)
-passed (Some kind) later h = absurd cc
-
-coordinate_in : (z : ℤ) (b : Bool) (kind : Kind) → nat_le (unsigned_abs z) 50000000 ≡ b → cond b None (Some kind) ≡ None → unsigned_abs z ≤ 50_000_000
-coordinate_in z true kind e h = grind (arith, nat_tests)
-coordinate_in z false kind e h = absurd cc
-
-coordinate_range : (o : Option ℤ) → coordinate_test o ≡ None → unsigned_abs (units o) ≤ 50_000_000
-coordinate_range None h = absurd cc
-coordinate_range (Some z) h = coordinate_in z (nat_le (unsigned_abs z) 50000000) _ refl h
-
-intensity_in : (n : ℕ) (b : Bool) (kind : Kind) → nat_le n 100000000 ≡ b → cond b None (Some kind) ≡ None → n ≤ 100_000_000
-intensity_in n true kind e h = grind (arith, nat_tests)
-intensity_in n false kind e h = absurd cc
-
-intensity_range : (o : Option ℤ) → intensity_test o ≡ None → unsigned_abs (units o) ≤ 100_000_000
-intensity_range None h = absurd cc
-intensity_range (Some (negsuc n)) h = absurd cc
-intensity_range (Some (pos n)) h = intensity_in n (nat_le n 100000000) _ refl h
-
-room_in : (n : ℕ) (b : Bool) (kind : Kind) → nat_lt n 1000 ≡ b → cond b None (Some kind) ≡ None → n < 1000
-room_in n true kind e h = grind (arith, nat_tests)
-room_in n false kind e h = absurd cc
-
--- what a line without a fault says of its light
-record Fine (so_far : ℕ) (fs : List (List ℕ)) : Type 0 where
-  pub range : IsOmni (light fs)
-  pub room : so_far < 1000
-
-fine : (so_far : ℕ) (fs : List (List ℕ)) → kind_of so_far fs ≡ None → Fine so_far fs
-unfolding kind_of light
-fine so_far fs h =
-    let a = passed (keyword_test fs) _ h in
-    let b = passed (count_test fs) _ a.1 in
-    let x = passed (coordinate_test (number 1 fs)) _ b.1 in
-    let y = passed (coordinate_test (number 2 fs)) _ x.1 in
-    let z = passed (coordinate_test (number 3 fs)) _ y.1 in
-    let r = passed (intensity_test (number 4 fs)) _ z.1 in
-    let g = passed (intensity_test (number 5 fs)) _ r.1 in
-    let b2 = passed (intensity_test (number 6 fs)) _ g.1 in
-    let room = passed (room_test so_far) _ b2.1 in
-    record {
-      range = record {
-        place = record { x = coordinate_range (number 1 fs) x.0; y = coordinate_range (number 2 fs) y.0; z = coordinate_range (number 3 fs) z.0 };
-        power = record { r = intensity_range (number 4 fs) r.0; g = intensity_range (number 5 fs) g.0; b = intensity_range (number 6 fs) b2.0 };
-      };
-      room = room_in so_far (nat_lt so_far 1000) _ refl room.0;
-    }
+-- ---- the sources
 
 none_then : (o : Option Kind) (n : ℕ) (later : Option Fault) → fault_then o n later ≡ None → (o ≡ None) × (later ≡ None)
 none_then None n later h = (refl, h)
 none_then (Some kind) n later h = absurd cc
 
-all_fine : (before later : List Line) → first_fault before later ≡ None → All IsOmni (omni_lights before) → length (omni_lights before) ≤ 1000 → All IsOmni (omni_lights (before ++ later)) × (length (omni_lights (before ++ later)) ≤ 1000)
+-- sources within their ranges, and not too many
+record AreSources (ss : List Source) : Type 0 where
+  valid : All IsSource ss
+  few : sum_by count ss ≤ 65536
+
+with_line : (before : List Line) (l : Line) (o : Option Source) → source_of (fields l.bytes) ≡ o → AreSources (sources before) → fault_of before l ≡ None → AreSources (sources (before ++ l ∷ []))
+with_line before l None e h none =
+    let same : sources (before ++ l ∷ []) ≡ sources before = filter_map-append (λ (m : Line). source_of (fields m.bytes)) before (l ∷ []) ∙ ap (λ (o : Option Source). sources before ++ cons_option o []) e ∙ append-nil (sources before) in
+    subst AreSources (sym same) h
+with_line before l (Some found) e h none =
+    let own = fine (sum_by count (sources before)) (fields l.bytes) found none e in
+    subst AreSources (sym (one_source_more before l found e)) (record { valid = All-push IsSource (sources before) found h.valid own.range; few = omega (arith, own.room, sum_by_push count (sources before) found) })
+
+all_fine : (before later : List Line) → first_fault before later ≡ None → AreSources (sources before) → AreSources (sources (before ++ later))
 unfolding first_fault
-all_fine before [] h valid few = (subst (λ ls. All IsOmni (omni_lights ls)) (sym (append-nil before)) valid, subst (λ ls. length (omni_lights ls) ≤ 1000) (sym (append-nil before)) few)
-all_fine before (l ∷ later) h valid few =
+all_fine before [] h valid = subst (λ (ls : List Line). AreSources (sources ls)) (sym (append-nil before)) valid
+all_fine before (l ∷ later) h valid =
     let both = none_then (fault_of before l) l.number (first_fault (before ++ l ∷ []) later) h in
-    let own : Fine (length (omni_lights before)) (fields l.bytes) = fine (length (omni_lights before)) (fields l.bytes) both.0 in
-    let more : omni_lights (before ++ l ∷ []) ≡ omni_lights before ++ light (fields l.bytes) ∷ [] = map_push (λ (m : Line). light (fields m.bytes)) before l in
-    let rest = all_fine (before ++ l ∷ []) later both.1
-    (subst (All IsOmni) (sym more) (All-push IsOmni (omni_lights before) (light (fields l.bytes)) valid own.range))
-    (let len : length (omni_lights (before ++ l ∷ [])) ≡ length (omni_lights before) + 1 = ap length more ∙ length-append (omni_lights before) (light (fields l.bytes) ∷ []) in omega (arith, len, own.room)) in
-    let same : (before ++ l ∷ []) ++ later ≡ before ++ (l ∷ later) = append_assoc before (l ∷ []) later in (
-      subst (λ ls. All IsOmni (omni_lights ls)) same rest.0,
-      subst (λ ls. length (omni_lights ls) ≤ 1000) same rest.1,
-    )
+    subst (λ (ls : List Line). AreSources (sources ls)) (append_assoc before (l ∷ []) later) (all_fine (before ++ l ∷ []) later both.1 (with_line before l (source_of (fields l.bytes)) refl valid both.0))
+
+-- ---- the samples
+
+share_most : (i n k : ℕ) → 1 ≤ n → share i n k ≤ i
+share_most i n k some = by_test (nat_lt k (i % n)) refl
+  where
+    by_test : (b : Bool) → nat_lt k (i % n) ≡ b → i / n + cond b 1 0 ≤ i
+    by_test true e = omega (arith, ltb-true k (i % n) e, mul-le-mul_left (i / n) some)
+    by_test false e = omega (arith, mul-le-mul_left (i / n) some)
+
+share_within : (p n k m : ℕ) → 1 ≤ n → p ≤ m → share p n k ≤ m
+share_within p n k m some h = le_trans (share_most p n k some) h
+
+sample_valid : (word : ℕ) (s : Area × ℕ) → word < 2 ^ 32 → IsArea s.0 → IsOriented (sample word s)
+unfolding sample normal
+sample_valid word s small h = record {
+  place = place_by_within word s.0 small h;
+  normal = scaled_within (cross s.0.along s.0.across) 16384;
+  power = record {
+    r = share_within s.0.power.r s.0.count s.1 100_000_000 h.some h.power.r;
+    g = share_within s.0.power.g s.0.count s.1 100_000_000 h.some h.power.g;
+    b = share_within s.0.power.b s.0.count s.1 100_000_000 h.some h.power.b;
+  };
+}
+
+rest_of : {X : Type 0} (P : X → Type 0) (x : X) (xs : List X) → All P (x ∷ xs) → All P xs
+rest_of P x xs h = λ k d lt. h (suc k) d (omega arith)
+
+samples_valid : (word : ℕ → ℕ) (n : ℕ) (list : List (Area × ℕ)) → ((k : ℕ) → word k < 2 ^ 32) → All (λ (s : Area × ℕ). IsArea s.0) list → All IsOriented (samples_from word n list)
+unfolding samples_from
+samples_valid word n [] small h = All-nil IsOriented
+samples_valid word n (s ∷ list) small h =
+    All-cons IsOriented (sample (word n) s) (samples_from word (n + 1) list) (sample_valid (word n) s (small n) (h 0 s (omega arith))) (samples_valid word (n + 1) list small (rest_of (λ (t : Area × ℕ). IsArea t.0) s list h))
+
+length-samples_from : (word : ℕ → ℕ) (n : ℕ) (list : List (Area × ℕ)) → length (samples_from word n list) ≡ length list
+unfolding samples_from
+length-samples_from word n [] = refl
+length-samples_from word n (s ∷ list) = omega (arith, length-samples_from word (n + 1) list)
+
+-- ---- the lights
+
+points_valid : (s : Source) → IsSource s → All IsOmni (points s)
+points_valid (source.Point omni) h = All-cons IsOmni omni [] h (All-nil IsOmni)
+points_valid (source.Sun sun) h = All-nil IsOmni
+points_valid (source.Area area) h = All-nil IsOmni
+
+suns_valid : (s : Source) → IsSource s → All IsSun (suns s)
+suns_valid (source.Point omni) h = All-nil IsSun
+suns_valid (source.Sun sun) h = All-cons IsSun sun [] h (All-nil IsSun)
+suns_valid (source.Area area) h = All-nil IsSun
+
+areas_valid : (s : Source) → IsSource s → All (λ (t : Area × ℕ). IsArea t.0) (samples s)
+areas_valid (source.Point omni) h = All-nil (λ (t : Area × ℕ). IsArea t.0)
+areas_valid (source.Sun sun) h = All-nil (λ (t : Area × ℕ). IsArea t.0)
+areas_valid (source.Area area) h = All-map (λ (t : Area × ℕ). IsArea t.0) (λ (k : ℕ). (area, k)) (range_with_len 0 area.count) (λ k d lt. h)
+
+all_valid : {X : Type 0} (P : X → Type 0) (f : Source → List X) (ss : List Source) → ((s : Source) → IsSource s → All P (f s)) → All IsSource ss → All P (flat_map f ss)
+all_valid P f [] own h = All-nil P
+all_valid P f (s ∷ ss) own h = All-append P (f s) (flat_map f ss) (own s (h 0 s (omega arith))) (all_valid P f ss own (rest_of IsSource s ss h))
+
+counted : (s : Source) → length (points s) + length (samples s) + length (suns s) ≡ count s
+counted (source.Point omni) = refl
+counted (source.Sun sun) = refl
+counted (source.Area area) = omega (arith, length-map-range_with_len {X = Area × ℕ} (λ k. (area, k)) 0 area.count)
+
+all_counted : (ss : List Source) → length (flat_map points ss) + length (flat_map samples ss) + length (flat_map suns ss) ≡ sum_by count ss
+all_counted [] = refl
+all_counted (s ∷ ss) =
+    let p : length (flat_map points (s ∷ ss)) ≡ length (points s) + length (flat_map points ss) = length-append (points s) (flat_map points ss) in
+    let a : length (flat_map samples (s ∷ ss)) ≡ length (samples s) + length (flat_map samples ss) = length-append (samples s) (flat_map samples ss) in
+    let n : length (flat_map suns (s ∷ ss)) ≡ length (suns s) + length (flat_map suns ss) = length-append (suns s) (flat_map suns ss) in
+    let all : sum_by count (s ∷ ss) ≡ count s + sum_by count ss = sum_by-cons count s ss in
+    omega (arith, counted s, all_counted ss)
+
+lights_of_valid : (word : ℕ → ℕ) (ss : List Source) → ((k : ℕ) → word k < 2 ^ 32) → AreSources ss → AreLights (lights_of word ss)
+unfolding lights_of
+lights_of_valid word ss small h = record {
+  omni = all_valid IsOmni points ss points_valid h.valid;
+  oriented = samples_valid word 0 (flat_map samples ss) small (all_valid (λ (t : Area × ℕ). IsArea t.0) samples ss areas_valid h.valid);
+  sun = all_valid IsSun suns ss suns_valid h.valid;
+  count = omega (arith, h.few, all_counted ss, length-samples_from word 0 (flat_map samples ss));
+}
 
 -- the lights of a text without a fault are within their ranges, and not too many
 pub lights_valid : (text : List ℕ) (seed : ℕ) → fault_in text ≡ None → AreLights (lights text seed)
 unfolding fault_in lights
 lights_valid text seed h =
-    let all = all_fine [] (spoken text) h (All-nil IsOmni) (omega arith) in
-    record { omni = all.0; oriented = λ k d lt. absurd (omega arith); sun = λ k d lt. absurd (omega arith); count = omega (arith, all.1) }
+    lights_of_valid (stream_word seed 3) (sources (spoken text)) (word_small (stream_of seed 3)) (all_fine [] (spoken text) h (record { valid = All-nil IsSource; few = omega arith }))

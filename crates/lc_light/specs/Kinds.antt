@@ -9,4 +9,7 @@ kind_number kind.Number = 2
 kind_number kind.FieldCount = 3
 kind_number kind.Range = 4
 kind_number kind.Negative = 5
+kind_number kind.NoDirection = 6
+kind_number kind.NoArea = 7
+kind_number kind.SampleCount = 8
 kind_number kind.TooMany = 9

@@ -4,8 +4,12 @@ pub mod Spelling
 pub mod Lines
 pub mod Fields
 pub mod Kinds
+pub mod Areas
+pub mod Sources
 pub mod LightLine
 pub mod LightFile
 pub use Rattle.lc_num.specs.Vectors
 pub use Rattle.lc_num.specs.Channels
 pub use Rattle.lc_num.specs.Faults
+pub use Rattle.lc_num.specs.Cosines
+pub use Rattle.lc_words.specs.Words

@@ -1,13 +1,15 @@
 -- The lights of a text, and its first fault.
-use Rattle.std.specs.Prelude.{◌≡◌, ℕ, Bool, nat_lt, List, [], ◌∷◌, ◌++◌, length, filter, map, Option, Some, None}
+use Rattle.std.specs.Prelude.{◌≡◌, ℕ, Bool, nat_lt, List, [], ◌∷◌, ◌++◌, length, filter, filter_map, sum_by, Option, Some, None}
 use Rattle.lc_num.specs.Faults.{Fault}
+use Rattle.lc_words.specs.Words.{stream_word}
 use Rattle.lc_light.specs.Lines.{Line, lines}
 use Rattle.lc_light.specs.Fields.{fields}
 use Rattle.lc_light.specs.Kinds.{kind_number}
-use Rattle.lc_light.specs.LightLine.{kind_of, light}
+use Rattle.lc_light.specs.LightLine.{kind_of, source_of}
+use Rattle.lc_light.specs.Sources.{count, lights_of}
 use Rattle.lc_light.specs.declared.kind.Kind.{Kind}
-use Rattle.lc_light.specs.declared.lights.Omni.{Omni}
 use Rattle.lc_light.specs.declared.lights.Lights.{Lights}
+use Rattle.lc_light.specs.declared.source.Source.{Source}
 use Rattle.lc_light.specs.declared.stop.LightStop.{LightStop}
 use Rattle.lc_light.specs.declared.stop.LightStop.TheVariants as stop
 
@@ -18,13 +20,13 @@ is_spoken l = nat_lt 0 (length (fields l.bytes))
 abbrev pub spoken : List ℕ → List Line
 spoken text = filter is_spoken (lines text)
 
--- the lights of lines without a fault
-abbrev pub omni_lights : List Line → List Omni
-omni_lights ls = map (λ l. light (fields l.bytes)) ls
+-- the sources of lines without a fault
+abbrev pub sources : List Line → List Source
+sources ls = filter_map (λ l. source_of (fields l.bytes)) ls
 
--- a line is judged by itself and the list of lines before it
+-- a line is judged by itself and the list of lines before it, whose lights are counted
 abbrev pub fault_of : List Line → Line → Option Kind
-fault_of before l = kind_of (length (omni_lights before)) (fields l.bytes)
+fault_of before l = kind_of (sum_by count (sources before)) (fields l.bytes)
 
 abbrev pub fault_then : Option Kind → ℕ → Option Fault → Option Fault
 fault_then (Some kind) n later = Some (record { line = n; kind = kind_number kind })
@@ -39,9 +41,9 @@ first_fault before (l ∷ later) = fault_then (fault_of before l) l.number (firs
 unfoldable pub fault_in : List ℕ → Option Fault
 fault_in text = first_fault [] (spoken text)
 
--- the lights of a text without a fault
+-- the lights of a text without a fault; the samples of its area lights take the words of stream 3 of the seed
 unfoldable pub lights : List ℕ → ℕ → Lights
-lights text seed = record { omni = omni_lights (spoken text); oriented = []; sun = [] }
+lights text seed = lights_of (stream_word seed 3) (sources (spoken text))
 
 -- a fault is the first one; want of memory is free
 abbrev pub IsStop : LightStop → Option Fault → Type 0

@@ -1,74 +1,146 @@
--- One line of a light file: its light, and the tests that it has to pass.
-use Rattle.std.specs.Prelude.{ℕ, ◌+◌, ◌==◌, nat_lt, nat_le, List, [], ◌∷◌, ◌++◌, length, Option, Some, None, ℤ, pos, negsuc, unsigned_abs, unwrap_or, if◌then◌else◌, codes, slice_index_or}
+-- One line of a light file: its source of light, and the tests that it has to pass.
+use Rattle.std.specs.Prelude.{ℕ, ◌+◌, ◌==◌, Bool, ◌&&◌, nat_lt, nat_le, List, [], ◌∷◌, ◌++◌, length, Option, Some, None, option_map, ℤ, pos, negsuc, unsigned_abs, unwrap_or, if◌then◌else◌, codes, slice_index_or}
 use Rattle.std.specs.Str.{bytes_eq}
 use Rattle.lc_num.specs.declared.vectors.Vec3.{Vec3}
 use Rattle.lc_num.specs.declared.channels.Power.{Power}
-use Rattle.lc_light.specs.Numbers.{short_units}
+use Rattle.lc_num.specs.Vectors.{square}
+use Rattle.lc_num.specs.Cosines.{scaled}
+use Rattle.lc_light.specs.Numbers.{short_units, whole}
+use Rattle.lc_light.specs.Areas.{has_places, spans}
+use Rattle.lc_light.specs.Sources.{count}
+use Rattle.lc_light.specs.declared.area.Area.{Area}
 use Rattle.lc_light.specs.declared.lights.Omni.{Omni}
+use Rattle.lc_light.specs.declared.lights.Sun.{Sun}
+use Rattle.lc_light.specs.declared.source.Source.{Source}
+use Rattle.lc_light.specs.declared.source.Source.TheVariants as source
+use Rattle.lc_light.specs.declared.keyword.Keyword.{Keyword}
+use Rattle.lc_light.specs.declared.keyword.Keyword.TheVariants as keyword
 use Rattle.lc_light.specs.declared.kind.Kind.{Kind}
 use Rattle.lc_light.specs.declared.kind.Kind.TheVariants as kind
 
--- the k-th field as a number, where the keyword is field 0
-abbrev pub number : ℕ → List (List ℕ) → Option ℤ
-number k fs = short_units (slice_index_or fs k [])
+-- ---- the source that a line names: its keyword is the first field, its values are the others
 
--- ---- the light
+unfoldable pub keyword_of : List ℕ → Option Keyword
+keyword_of word =
+    if bytes_eq word (codes "point")
+    then Some keyword.Point
+    else (if bytes_eq word (codes "sun") then Some keyword.Sun else (if bytes_eq word (codes "area") then Some keyword.Area else None))
+
+-- the k-th value as a number
+abbrev pub number : ℕ → List (List ℕ) → Option ℤ
+number k values = short_units (slice_index_or values k [])
+
+-- the k-th value as a whole number
+abbrev pub whole_number : ℕ → List (List ℕ) → Option ℕ
+whole_number k values = whole (slice_index_or values k [])
 
 -- the units of a number
 abbrev pub units : Option ℤ → ℤ
 units number = unwrap_or number (pos 0)
 
--- three fields from the k-th as a place
-abbrev pub place_at : ℕ → List (List ℕ) → Vec3
-place_at k fs = record { x = units (number k fs); y = units (number (k + 1) fs); z = units (number (k + 2) fs) }
+-- three values from the k-th as a place or a direction
+abbrev pub vector_at : ℕ → List (List ℕ) → Vec3
+vector_at k values = record { x = units (number k values); y = units (number (k + 1) values); z = units (number (k + 2) values) }
 
--- three fields from the k-th as intensities
+-- three values from the k-th as intensities
 abbrev pub power_at : ℕ → List (List ℕ) → Power
-power_at k fs = record {
-  r = unsigned_abs (units (number k fs));
-  g = unsigned_abs (units (number (k + 1) fs));
-  b = unsigned_abs (units (number (k + 2) fs));
+power_at k values = record {
+  r = unsigned_abs (units (number k values));
+  g = unsigned_abs (units (number (k + 1) values));
+  b = unsigned_abs (units (number (k + 2) values));
 }
 
--- the light of the fields of a line without a fault
-unfoldable pub light : List (List ℕ) → Omni
-light fs = record { place = place_at 1 fs; power = power_at 4 fs }
+unfoldable pub point : List (List ℕ) → Omni
+point values = record { place = vector_at 0 values; power = power_at 3 values }
+
+unfoldable pub sun : List (List ℕ) → Sun
+sun values = record { toward = scaled (vector_at 0 values) 16384; power = power_at 3 values }
+
+unfoldable pub area : List (List ℕ) → Area
+area values = record {
+  corner = vector_at 0 values;
+  along = vector_at 3 values;
+  across = vector_at 6 values;
+  power = power_at 9 values;
+  count = unwrap_or (whole_number 12 values) 0;
+}
+
+abbrev pub source_by : Keyword → List (List ℕ) → Source
+source_by keyword.Point values = source.Point (point values)
+source_by keyword.Sun values = source.Sun (sun values)
+source_by keyword.Area values = source.Area (area values)
+
+-- the source of the fields of a line without a fault
+unfoldable pub source_of : List (List ℕ) → Option Source
+source_of [] = None
+source_of (word ∷ values) = option_map (λ key. source_by key values) (keyword_of word)
 
 -- ---- the tests; each gives its kind where it fails
+
+abbrev pub unless : Bool → Kind → Option Kind
+unless passes kind = if passes then None else Some kind
+
+abbrev pub number_test : Option ℤ → Option Kind
+number_test None = Some kind.Number
+number_test (Some z) = None
 
 -- a coordinate is a number from -5000 to 5000
 abbrev pub coordinate_test : Option ℤ → Option Kind
 coordinate_test None = Some kind.Number
-coordinate_test (Some z) = if nat_le (unsigned_abs z) 50000000 then None else Some kind.Range
+coordinate_test (Some z) = unless (nat_le (unsigned_abs z) 50000000) kind.Range
 
 -- an intensity is a number from 0 to 10000
 abbrev pub intensity_test : Option ℤ → Option Kind
 intensity_test None = Some kind.Number
 intensity_test (Some (negsuc n)) = Some kind.Negative
-intensity_test (Some (pos n)) = if nat_le n 100000000 then None else Some kind.Range
+intensity_test (Some (pos n)) = unless (nat_le n 100000000) kind.Range
 
-abbrev pub place_tests : ℕ → List (List ℕ) → List (Option Kind)
-place_tests k fs = coordinate_test (number k fs) ∷ coordinate_test (number (k + 1) fs) ∷ coordinate_test (number (k + 2) fs) ∷ []
+-- a number of samples is a whole number from 1 to 4096
+abbrev pub samples_test : Option ℕ → Option Kind
+samples_test None = Some kind.Number
+samples_test (Some n) = unless (nat_lt 0 n && nat_le n 4096) kind.SampleCount
+
+abbrev pub vector_tests : ℕ → List (List ℕ) → List (Option Kind)
+vector_tests k values = coordinate_test (number k values) ∷ coordinate_test (number (k + 1) values) ∷ coordinate_test (number (k + 2) values) ∷ []
+
+abbrev pub side_tests : ℕ → List (List ℕ) → List (Option Kind)
+side_tests k values = number_test (number k values) ∷ number_test (number (k + 1) values) ∷ number_test (number (k + 2) values) ∷ []
 
 abbrev pub power_tests : ℕ → List (List ℕ) → List (Option Kind)
-power_tests k fs = intensity_test (number k fs) ∷ intensity_test (number (k + 1) fs) ∷ intensity_test (number (k + 2) fs) ∷ []
+power_tests k values = intensity_test (number k values) ∷ intensity_test (number (k + 1) values) ∷ intensity_test (number (k + 2) values) ∷ []
 
-abbrev pub keyword_test : List (List ℕ) → Option Kind
-keyword_test fs = if bytes_eq (slice_index_or fs 0 []) (codes "point") then None else Some kind.Keyword
+-- a direction is not zero
+abbrev pub direction_test : Vec3 → Option Kind
+direction_test v = unless (nat_lt 0 (square v)) kind.NoDirection
 
-abbrev pub count_test : List (List ℕ) → Option Kind
-count_test fs = if length fs == 7 then None else Some kind.FieldCount
+-- the values of an area light from the left
+unfoldable pub area_tests : List (List ℕ) → List (Option Kind)
+area_tests values =
+    vector_tests 0 values ++ (side_tests 3 values ++ (side_tests 6 values ++ (power_tests 9 values ++ samples_test (whole_number 12 values) ∷ [])))
 
--- with the lights so far there is room for one more
-abbrev pub room_test : ℕ → Option Kind
-room_test so_far = if nat_lt so_far 1000 then None else Some kind.TooMany
+-- an area light has its corners in range and spans an area
+abbrev pub shape_tests : Area → List (Option Kind)
+shape_tests a = unless (has_places a) kind.Range ∷ unless (spans a) kind.NoArea ∷ []
 
-abbrev pub front_tests : List (List ℕ) → List (Option Kind)
-front_tests fs = keyword_test fs ∷ count_test fs ∷ []
+-- the tests of the values of each keyword, in their order
+unfoldable pub value_tests : Keyword → List (List ℕ) → List (Option Kind)
+value_tests keyword.Point values = vector_tests 0 values ++ power_tests 3 values
+value_tests keyword.Sun values = vector_tests 0 values ++ (power_tests 3 values ++ direction_test (vector_at 0 values) ∷ [])
+value_tests keyword.Area values = area_tests values ++ shape_tests (area values)
 
--- the tests of the fields of a line in their order
-abbrev pub tests : ℕ → List (List ℕ) → List (Option Kind)
-tests so_far fs = front_tests fs ++ (place_tests 1 fs ++ (power_tests 4 fs ++ room_test so_far ∷ []))
+abbrev pub value_count : Keyword → ℕ
+value_count keyword.Point = 6
+value_count keyword.Sun = 6
+value_count keyword.Area = 13
+
+-- the number of the lights so far and of this source is at most 65,536
+abbrev pub room_test : ℕ → Source → Option Kind
+room_test so_far s = unless (nat_le (so_far + count s) 65536) kind.TooMany
+
+-- the tests of a line with a known keyword, in their order
+abbrev pub tests : ℕ → Keyword → List (List ℕ) → List (Option Kind)
+tests so_far key values =
+    unless (length values == value_count key) kind.FieldCount ∷ (value_tests key values ++ room_test so_far (source_by key values) ∷ [])
 
 -- the first kind that is there
 abbrev pub first_kind : List (Option Kind) → Option Kind
@@ -76,6 +148,11 @@ first_kind [] = None
 first_kind (None ∷ later) = first_kind later
 first_kind (Some kind ∷ later) = Some kind
 
+abbrev pub kind_by : Option Keyword → ℕ → List (List ℕ) → Option Kind
+kind_by None so_far values = Some kind.Keyword
+kind_by (Some key) so_far values = first_kind (tests so_far key values)
+
 -- the kind of the first test that the fields of a line fail, after so many lights
 unfoldable pub kind_of : ℕ → List (List ℕ) → Option Kind
-kind_of so_far fs = first_kind (tests so_far fs)
+kind_of so_far [] = None
+kind_of so_far (word ∷ values) = kind_by (keyword_of word) so_far values

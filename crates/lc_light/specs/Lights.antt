@@ -26,4 +26,4 @@ pub record AreLights (lights : Lights) : Type 0 where
   pub omni : All IsOmni lights.omni
   pub oriented : All IsOriented lights.oriented
   pub sun : All IsSun lights.sun
-  pub count : length lights.omni + length lights.oriented + length lights.sun ≤ 1000
+  pub count : length lights.omni + length lights.oriented + length lights.sun ≤ 65536

@@ -11,10 +11,16 @@ pub enum Kind {
     Number = 2,
     /// The line has another number of fields than its keyword wants.
     FieldCount = 3,
-    /// A number is out of its range.
+    /// A number or a corner of an area light is out of its range.
     Range = 4,
     /// An intensity is below 0.
     Negative = 5,
+    /// The direction of a sun is zero.
+    NoDirection = 6,
+    /// The sides of an area light have one direction, or one is zero.
+    NoArea = 7,
+    /// The number of samples of an area light is out of its range.
+    SampleCount = 8,
     /// There are more lights than a file may have.
     TooMany = 9,
 }

@@ -1,15 +1,20 @@
 //! Lights, and the reader of light files.
 #![tactic(auto)]
 
+mod area;
 mod fields;
+mod keyword;
 mod kind;
 mod lights;
 mod line;
 mod lines;
 mod numbers;
 mod reader;
+mod source;
 mod stop;
+mod values;
 
+pub use area::area_powers_add_up;
 pub use lights::{Lights, Omni, Oriented, Sun};
 pub use numbers::{short_number, short_numbers_are_spelled};
 pub use reader::read_lights;

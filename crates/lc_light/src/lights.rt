@@ -8,7 +8,8 @@ pub struct Omni {
     pub power: Power,
 }
 
-/// A light that shines from one side, with the cosine to its normal. The normal is at most 16384 long.
+/// A light that shines to one side, by the cosine to its normal: a sample of an area light. The normal is at most 16384
+/// long.
 #[derive(Clone, Copy, Debug, PartialEq, Eq)]
 pub struct Oriented {
     pub place: Vec3,
@@ -23,7 +24,7 @@ pub struct Sun {
     pub power: Power,
 }
 
-/// The lights of a scene. A light's number is its place in the list of its kind.
+/// The lights of a scene, at most 65,536. A light's number is its place in the list of its kind.
 #[derive(Drop)]
 pub struct Lights {
     pub omni: List<Omni>,

@@ -1,5 +1,5 @@
 // Numbers in their short form.
-ghost use Rattle.std.specs.Prelude.{◌≡◌, ◌^◌, ◌<◌, ◌≤◌, length, IsTrue, IfSome, MatchOption, true, false, ℕ, ℤ, List, Some};
+ghost use Rattle.std.specs.Prelude.{◌≡◌, ◌^◌, ◌<◌, ◌≤◌, length, IsTrue, IfSome, MatchOption, true, false, ℕ, ℤ, List, Some, unsigned_abs};
 ghost use Rattle.std.specs.List.{list_all, before_first, after_first};
 ghost use Rattle.std.specs.Char.{is_ascii_digit};
 ghost use Rattle.std.specs.Str.Parse.{digits_value};
@@ -34,7 +34,8 @@ fn digits_value(digits: &[u8]) -> u64
 }
 
 #[tactic(auto, unfolding(crate::specs::Numbers::whole))]
-fn whole(digits: &[u8]) -> Option<u64>
+/// The whole number of one to six digits.
+pub fn whole(digits: &[u8]) -> Option<u64>
     ensures value { result ≡ whole digits.now }
     ensures small { IfSome result (λ n. n < 1_000_000) }
 {
@@ -100,7 +101,8 @@ fn after_sign(field: &[u8]) -> (bool, &[u8])
 #[tactic(auto, unfolding(crate::specs::Numbers::short_units))]
 /// The number that the bytes spell in the short form, in units of 1/10000.
 pub fn short_number(field: &[u8]) -> Option<i64>
-    ensures { result ≡ short_units field.now }
+    ensures value { result ≡ short_units field.now }
+    ensures small { IfSome result (λ z. unsigned_abs z < 10 ^ 10) }
 {
     let (negative, body) = after_sign(field);
     let size = size(body)? as i64;

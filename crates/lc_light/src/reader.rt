@@ -1,17 +1,40 @@
 // A light file read line by line.
-ghost use Rattle.std.specs.Prelude.{◌≡◌, ◌≤◌, length, None, IfOk, IfErr};
+ghost use Rattle.std.specs.Prelude.{◌≡◌, ◌++◌, ◌≤◌, length, None, OnOk, IfOk, IfErr};
+ghost use Rattle.lc_light.specs.Areas.{samples_from};
 ghost use Rattle.lc_light.specs.Lights.{AreLights};
 ghost use Rattle.lc_light.specs.LightFile.{fault_in, lights, IsStop};
+ghost use Rattle.lc_light.specs.Sources.{IsSource, points, samples, suns};
+ghost use Rattle.lc_words.specs.Words.{after, word_of};
 
 use crate::lights::Lights;
-use crate::line::{has_fields, light_in};
+use crate::line::{has_fields, source_in};
 use crate::lines::Lines;
+use crate::source::Source;
 use crate::stop::LightStop;
-use lc_num::List;
+use lc_num::{List, Memory};
+use lc_words::Stream;
 use std::alloc::Global;
 
-/// The lights of a light file of at most 512 MiB, or its first fault. Lights of areas, which take their places by the
-/// seed, are not read yet.
+// The stream whose words give the samples of area lights their places.
+const AREA_STREAM: u64 = 3;
+
+/// Adds the lights of a source; each sample of an area light takes a word.
+fn add(lights: &mut Lights, source: Source, words: &mut Stream) -> Result<(), Memory>
+    requires { IsSource source }
+    ensures omni { OnOk result (lights.new.omni ≡ lights.old.omni ++ points source) }
+    ensures oriented { OnOk result (lights.new.oriented ≡ lights.old.oriented ++ samples_from (word_of words.old) 0 (samples source)) }
+    ensures sun { OnOk result (lights.new.sun ≡ lights.old.sun ++ suns source) }
+    ensures words { OnOk result (words.new ≡ after words.old (length (samples source))) }
+{
+    match source {
+        Source::Point(omni) => lights.omni.push(omni),
+        Source::Sun(sun) => lights.sun.push(sun),
+        Source::Area(area) => area.add_samples(&mut lights.oriented, words),
+    }
+}
+
+/// The lights of a light file of at most 512 MiB, or its first fault. An area light becomes its samples, oriented lights
+/// whose places are picked by the words of the seed, in the order of the file.
 pub fn read_lights(alloc: Global, bytes: &[u8], seed: u64) -> Result<Lights, LightStop>
     requires { length bytes.now ≤ 536_870_912 }
 
@@ -24,12 +47,21 @@ pub fn read_lights(alloc: Global, bytes: &[u8], seed: u64) -> Result<Lights, Lig
     // The lights are in their ranges.
     ensures valid { IfOk result AreLights }
 {
-    let mut omni = List::new(alloc);
+    let mut lights = Lights {
+        omni: List::new(alloc),
+        oriented: List::new(alloc),
+        sun: List::new(alloc),
+    };
+    let mut words = Stream::new(seed, AREA_STREAM);
+    let mut so_far = 0;
     let mut lines = Lines::new(bytes);
     while let Some((number, line)) = lines.next_line() {
         if has_fields(line) {
-            match light_in(line, omni.len()) {
-                Ok(light) => omni.push(light)?,
+            match source_in(line, so_far) {
+                Ok(source) => {
+                    add(&mut lights, source, &mut words)?;
+                    so_far += source.count();
+                }
                 Err(kind) => {
                     return Err(LightStop::Fault {
                         line: number,
@@ -39,9 +71,5 @@ pub fn read_lights(alloc: Global, bytes: &[u8], seed: u64) -> Result<Lights, Lig
             }
         }
     }
-    Ok(Lights {
-        omni,
-        oriented: List::new(alloc),
-        sun: List::new(alloc),
-    })
+    Ok(lights)
 }

@@ -1,20 +1,30 @@
+use Rattle.std.proofs.Common.{ℕ, ◌+◌, ap, subst, sym}
+use Rattle.lc_light.proofs.ValidLights.{lights_valid}
+use Rattle.lc_light.specs.Lights.{AreLights}
 use Rattle.lc_light.specs.Lines.{line}
 use Rattle.lc_light.proofs.ReadLemmas.{start, takes, stops, ends}
 use Rattle.lc_light.proofs.reader.read_lights.Goals as goal
 
 pub loop-number-init : goal.loop-number-init
-loop-number-init c = start c.args.bytes.now c.new-lines.result c.new-omni.result c.new-lines.ensures c.new-omni.ensures
+loop-number-init c =
+    start c.args.bytes.now c.args.seed c.new-lines.result c.new.result c.new-2.result c.new-3.result c.new-words.result c.new-lines.ensures c.new.ensures c.new-2.ensures c.new-3.ensures c.new-words.ensures
 
-pub loop-number-preserved-in-Continue-1 : goal.loop-number-preserved-in-Continue-1
-loop-number-preserved-in-Continue-1 c =
-    takes c.args.bytes.now (line c.in-Some.number c.in-Some.line.now) c.loop-number.lines c.next_line.new.self c.loop-number.omni c.push.new.self c.len.result c.in-Ok.light c.in-Some.ensures (c.has_fields.ensures.0 c.if-has_fields.true) c.len.ensures
-    (record { value = c.in-Ok.ensures.value; range = c.in-Ok.ensures.range; room = c.in-Ok.ensures.room }) c.in_ok-push-in-Ok.ensures.ok c.loop-number.invariant
+pub loop-number-preserved-in-Ok : goal.loop-number-preserved-in-Ok
+loop-number-preserved-in-Ok c =
+    let at = c.loop-number in
+    let add = c.in_ok-add-in-Ok.ensures in
+    takes c.args.bytes.now c.args.seed (line c.in-Some.number c.in-Some.line.now) at.lines c.next_line.new.self at.lights c.add.new.lights at.words c.add.new.words at.so_far _ c.in-Ok.source c.in-Some.ensures (c.has_fields.ensures.0 c.if-has_fields.true)
+    (record { kind = c.in-Ok.ensures.value.0; source = c.in-Ok.ensures.value.1; room = c.in-Ok.ensures.room }) (record { omni = add.omni; oriented = add.oriented; sun = add.sun; taken = add.words }) (ap (λ (n : ℕ). at.so_far + n) c.count-so_far.ensures) at.invariant
 
 pub returns-in-Err-clause-fault : goal.returns-in-Err-clause-fault
 returns-in-Err-clause-fault c =
-    stops c.args.bytes.now (line c.in-Some.number c.in-Some.line.now) c.loop-number.lines c.next_line.new.self c.loop-number.omni c.len.result c.number.result c.in-Err.kind c.in-Some.ensures (c.has_fields.ensures.0 c.if-has_fields.true) c.len.ensures
-    c.in-Err.ensures.value c.number.ensures c.loop-number.invariant
+    let at = c.loop-number in
+    stops c.args.bytes.now c.args.seed (line c.in-Some.number c.in-Some.line.now) at.lines c.next_line.new.self at.lights at.words at.so_far c.number.result c.in-Err.kind c.in-Some.ensures (c.has_fields.ensures.0 c.if-has_fields.true) c.in-Err.ensures.value c.number.ensures at.invariant
 
 pub returns-clause-ok : goal.returns-clause-ok
-returns-clause-ok c =
-    ends c.args.bytes.now c.args.seed c.loop-number.lines c.loop-number.omni c.new.result c.new-2.result c.in_default.ensures.0 c.new.ensures c.new-2.ensures c.loop-number.invariant
+returns-clause-ok c = ends c.args.bytes.now c.args.seed c.loop-number.lines c.loop-number.lights c.loop-number.words c.loop-number.so_far c.in_default.ensures.0 c.loop-number.invariant
+
+pub returns-clause-valid : goal.returns-clause-valid
+returns-clause-valid c =
+    let both = returns-clause-ok c in
+    subst AreLights (sym both.1) (lights_valid c.args.bytes.now c.args.seed both.0)

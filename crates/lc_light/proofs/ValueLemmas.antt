@@ -1,0 +1,59 @@
+-- Tests in a row, and the values of a line that are still to come.
+use Rattle.std.proofs.Common.{◌≡◌, ℕ, ◌+◌, List, [], ◌∷◌, ◌++◌, drop, Option, Some, None, refl, sym, ap, ◌∙◌, add-zero}
+use Rattle.std.proofs.lemmas.List.{get_or-drop}
+use Rattle.lc_num.specs.declared.vectors.Vec3.{Vec3}
+use Rattle.lc_num.specs.declared.channels.Power.{Power}
+use Rattle.lc_light.specs.Numbers.{short_units, whole}
+use Rattle.lc_light.specs.declared.kind.Kind.{Kind}
+use Rattle.lc_light.specs.LightLine.{number, whole_number, first_kind, vector_tests, side_tests, power_tests, vector_at, power_at}
+
+-- ---- lists of tests
+
+-- a test that fails decides
+pub found : (xs ys : List (Option Kind)) (k : Kind) → first_kind xs ≡ Some k → first_kind (xs ++ ys) ≡ Some k
+found [] ys k e = absurd cc
+found (None ∷ xs) ys k e = found xs ys k e
+found (Some l ∷ xs) ys k e = e
+
+-- tests that are passed leave it to the later ones
+pub passed : (xs ys : List (Option Kind)) → first_kind xs ≡ None → first_kind (xs ++ ys) ≡ first_kind ys
+passed [] ys e = refl
+passed (None ∷ xs) ys e = passed xs ys e
+passed (Some l ∷ xs) ys e = absurd cc
+
+-- where all are passed, both parts are
+pub both : (xs ys : List (Option Kind)) → first_kind (xs ++ ys) ≡ None → (first_kind xs ≡ None) × (first_kind ys ≡ None)
+both [] ys e = (refl, e)
+both (None ∷ xs) ys e = both xs ys e
+both (Some l ∷ xs) ys e = absurd cc
+
+pub first_passed : (test : Option Kind) (later : List (Option Kind)) → first_kind (test ∷ later) ≡ None → (test ≡ None) × (first_kind later ≡ None)
+first_passed None later h = (refl, h)
+first_passed (Some kind) later h = absurd cc
+
+-- ---- the values after the first k
+
+number_after : (k j : ℕ) (values rest : List (List ℕ)) → rest ≡ drop k values → number (k + j) values ≡ number j rest
+number_after k j values rest e = sym (ap (number j) e ∙ ap short_units (get_or-drop k values j []))
+
+first_number : (k : ℕ) (values rest : List (List ℕ)) → rest ≡ drop k values → number k values ≡ number 0 rest
+first_number k values rest e = ap (λ (n : ℕ). number n values) (sym (add-zero k)) ∙ number_after k 0 values rest e
+
+pub whole_after : (k : ℕ) (values rest : List (List ℕ)) → rest ≡ drop k values → whole_number k values ≡ whole_number 0 rest
+whole_after k values rest e = ap (λ (n : ℕ). whole_number n values) (sym (add-zero k)) ∙ sym (ap (whole_number 0) e ∙ ap whole (get_or-drop k values 0 []))
+
+module _ (k : ℕ) (values rest : List (List ℕ)) (e : rest ≡ drop k values) where
+  pub vector_tests_after : vector_tests k values ≡ vector_tests 0 rest
+  vector_tests_after = rw (first_number k values rest e, number_after k 1 values rest e, number_after k 2 values rest e) refl
+
+  pub side_tests_after : side_tests k values ≡ side_tests 0 rest
+  side_tests_after = rw (first_number k values rest e, number_after k 1 values rest e, number_after k 2 values rest e) refl
+
+  pub power_tests_after : power_tests k values ≡ power_tests 0 rest
+  power_tests_after = rw (first_number k values rest e, number_after k 1 values rest e, number_after k 2 values rest e) refl
+
+  pub vector_after : vector_at k values ≡ vector_at 0 rest
+  vector_after = rw (first_number k values rest e, number_after k 1 values rest e, number_after k 2 values rest e) refl
+
+  pub power_after : power_at k values ≡ power_at 0 rest
+  power_after = rw (first_number k values rest e, number_after k 1 values rest e, number_after k 2 values rest e) refl

@@ -1,0 +1,148 @@
+// The values of a line, one after the other.
+ghost use Rattle.std.specs.Prelude.{◌≡◌, ◌<◌, ◌≤◌, ◌^◌, length, drop, Some, None, IfOk, OnOk, MatchResult, unsigned_abs, unwrap_or};
+ghost use Rattle.lc_num.specs.Vectors.{Within};
+ghost use Rattle.lc_light.specs.LightLine.{number, whole_number, units, vector_at, power_at, number_test, coordinate_test, intensity_test, samples_test, side_tests, vector_tests, power_tests, first_kind};
+
+use crate::area::MOST_COORDINATE;
+use crate::fields::Fields;
+use crate::kind::Kind;
+use crate::numbers::{short_number, whole};
+use lc_num::{Power, Vec3};
+
+// 10000, in units of 1/10000.
+const MOST_INTENSITY: i64 = 100_000_000;
+
+const MOST_SAMPLES: u64 = 4096;
+
+/// The next value as a component of a side.
+fn number(values: &mut Fields) -> Result<i64, Kind>
+    requires { 0 < length values.old }
+    ensures rest { values.new ≡ drop 1 values.old }
+    ensures value { MatchResult result
+        (λ z. (number_test (number 0 values.old) ≡ None) × (units (number 0 values.old) ≡ z))
+        (λ kind. number_test (number 0 values.old) ≡ Some kind) }
+    ensures range { IfOk result (λ z. unsigned_abs z ≤ 10 ^ 10) }
+{
+    let Some(field) = values.next_field() else {
+        return Err(Kind::Number);
+    };
+    match short_number(field) {
+        None => Err(Kind::Number),
+        Some(z) => Ok(z),
+    }
+}
+
+/// The next value as a coordinate.
+fn coordinate(values: &mut Fields) -> Result<i64, Kind>
+    requires { 0 < length values.old }
+    ensures rest { values.new ≡ drop 1 values.old }
+    ensures value { MatchResult result
+        (λ z. (coordinate_test (number 0 values.old) ≡ None) × (units (number 0 values.old) ≡ z))
+        (λ kind. coordinate_test (number 0 values.old) ≡ Some kind) }
+    ensures range { IfOk result (λ z. unsigned_abs z ≤ 50_000_000) }
+{
+    let Some(field) = values.next_field() else {
+        return Err(Kind::Number);
+    };
+    match short_number(field) {
+        None => Err(Kind::Number),
+        Some(z) => {
+            if z.unsigned_abs() > MOST_COORDINATE {
+                Err(Kind::Range)
+            } else {
+                Ok(z)
+            }
+        }
+    }
+}
+
+/// The next value as an intensity.
+fn intensity(values: &mut Fields) -> Result<u64, Kind>
+    requires { 0 < length values.old }
+    ensures rest { values.new ≡ drop 1 values.old }
+    ensures value { MatchResult result
+        (λ n. (intensity_test (number 0 values.old) ≡ None) × (unsigned_abs (units (number 0 values.old)) ≡ n))
+        (λ kind. intensity_test (number 0 values.old) ≡ Some kind) }
+{
+    let Some(field) = values.next_field() else {
+        return Err(Kind::Number);
+    };
+    match short_number(field) {
+        None => Err(Kind::Number),
+        Some(z) => {
+            if z < 0 {
+                Err(Kind::Negative)
+            } else if z > MOST_INTENSITY {
+                Err(Kind::Range)
+            } else {
+                Ok(z as u64)
+            }
+        }
+    }
+}
+
+/// The next value as the number of samples of an area light.
+pub fn samples(values: &mut Fields) -> Result<u32, Kind>
+    requires { 0 < length values.old }
+    ensures value { MatchResult result
+        (λ n. (samples_test (whole_number 0 values.old) ≡ None) × (unwrap_or (whole_number 0 values.old) 0 ≡ n))
+        (λ kind. samples_test (whole_number 0 values.old) ≡ Some kind) }
+{
+    let Some(field) = values.next_field() else {
+        return Err(Kind::Number);
+    };
+    match whole(field) {
+        None => Err(Kind::Number),
+        Some(n) => {
+            if n == 0 || n > MOST_SAMPLES {
+                Err(Kind::SampleCount)
+            } else {
+                Ok(n as u32)
+            }
+        }
+    }
+}
+
+/// The next three values as a side.
+pub fn side(values: &mut Fields) -> Result<Vec3, Kind>
+    requires { 3 ≤ length values.old }
+    ensures rest { OnOk result (values.new ≡ drop 3 values.old) }
+    ensures value { MatchResult result
+        (λ v. (first_kind (side_tests 0 values.old) ≡ None) × (vector_at 0 values.old ≡ v))
+        (λ kind. first_kind (side_tests 0 values.old) ≡ Some kind) }
+    ensures range { IfOk result (Within (10 ^ 10)) }
+{
+    let x = number(values)?;
+    let y = number(values)?;
+    let z = number(values)?;
+    Ok(Vec3 { x, y, z })
+}
+
+/// The next three values as a place or a direction.
+pub fn vector(values: &mut Fields) -> Result<Vec3, Kind>
+    requires { 3 ≤ length values.old }
+    ensures rest { OnOk result (values.new ≡ drop 3 values.old) }
+    ensures value { MatchResult result
+        (λ v. (first_kind (vector_tests 0 values.old) ≡ None) × (vector_at 0 values.old ≡ v))
+        (λ kind. first_kind (vector_tests 0 values.old) ≡ Some kind) }
+    ensures range { IfOk result (Within 50_000_000) }
+{
+    let x = coordinate(values)?;
+    let y = coordinate(values)?;
+    let z = coordinate(values)?;
+    Ok(Vec3 { x, y, z })
+}
+
+/// The next three values as intensities.
+pub fn power(values: &mut Fields) -> Result<Power, Kind>
+    requires { 3 ≤ length values.old }
+    ensures rest { OnOk result (values.new ≡ drop 3 values.old) }
+    ensures value { MatchResult result
+        (λ v. (first_kind (power_tests 0 values.old) ≡ None) × (power_at 0 values.old ≡ v))
+        (λ kind. first_kind (power_tests 0 values.old) ≡ Some kind) }
+{
+    let r = intensity(values)?;
+    let g = intensity(values)?;
+    let b = intensity(values)?;
+    Ok(Power { r, g, b })
+}

@@ -1,5 +1,6 @@
 // Cuts at many spots.
 ghost use Rattle.std.specs.Prelude.{◌≡◌, ◌≤◌, ◌<◌};
+ghost use Rattle.lc_cut.specs.Forest.{light_count, lights_of};
 
 use crate::inputs::Random;
 use lc_cut::{Ask, Bench, Forest, cut};
@@ -28,6 +29,7 @@ fn add_cut<L: Ledger>(
     blank: Blank,
 ) -> Sums
     requires bench { bench.old ≡ 1000 }
+    requires few { light_count (lights_of forest.now) ≤ 65536 }
     requires name { blank.name ≡ L.name }
     requires parts { blank.parts ≡ L.parts }
     requires some { 0 < blank.parts }
@@ -46,7 +48,8 @@ fn add_cut<L: Ledger>(
 
 /// Adds the cuts at so many spots.
 pub fn add_cuts(bench: &mut Bench, forest: &Forest, random: &mut Random, spots: u32) -> Sums
-    requires { bench.old ≡ 1000 }
+    requires bench { bench.old ≡ 1000 }
+    requires few { light_count (lights_of forest.now) ≤ 65536 }
     ensures { bench.new ≡ bench.old }
 {
     let mut sums = Sums { evals: 0, light: 0 };

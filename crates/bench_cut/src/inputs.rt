@@ -3,9 +3,9 @@ ghost use Rattle.std.specs.Prelude.{◌≤◌, unsigned_abs, All, IfOk, length};
 ghost use Rattle.lc_num.specs.Vectors.{Within};
 ghost use Rattle.lc_num.specs.Channels.{IsPowerWithin};
 ghost use Rattle.lc_terms.specs.Spot.{IsMatte, IsSpot};
-ghost use Rattle.lc_light.specs.Lights.{IsOmni};
+ghost use Rattle.lc_light.specs.Lights.{AreLights, IsOmni, IsOriented, IsSun};
 
-use lc_light::Omni;
+use lc_light::{Lights, Omni, Oriented, Sun};
 use lc_num::{Colour, List, Memory, Power, Vec3};
 use lc_terms::Spot;
 use std::alloc::Global;
@@ -59,12 +59,35 @@ impl Random {
     }
 
     /// A light within 100 of the origin on each axis.
-    pub fn light(&mut self) -> Omni
+    fn omni(&mut self) -> Omni
         ensures { IsOmni result }
     {
         let place = self.vector(1_000_000);
         let power = self.power();
         Omni { place, power }
+    }
+
+    /// A light within 100 of the origin on each axis that shines from one side.
+    fn oriented(&mut self) -> Oriented
+        ensures { IsOriented result }
+    {
+        let place = self.vector(1_000_000);
+        let normal = self.vector(16384);
+        let power = self.power();
+        Oriented {
+            place,
+            normal,
+            power,
+        }
+    }
+
+    /// A light at infinity.
+    fn sun(&mut self) -> Sun
+        ensures { IsSun result }
+    {
+        let toward = self.vector(16384);
+        let power = self.power();
+        Sun { toward, power }
     }
 
     /// A matte white spot among the lights.
@@ -89,15 +112,51 @@ impl Random {
     }
 }
 
-/// So many lights.
-pub fn lights(alloc: Global, random: &mut Random, count: u32) -> Result<List<Omni>, Memory>
-    requires { count ≤ 65536 }
+fn omni_lights(alloc: Global, random: &mut Random, count: u32) -> Result<List<Omni>, Memory>
     ensures valid { IfOk result (All IsOmni) }
-    ensures few { IfOk result (λ lights. length lights ≤ 65536) }
+    ensures few { IfOk result (λ lights. length lights ≤ count) }
 {
     let mut lights = List::new(alloc);
     for _ in 0..count {
-        lights.push(random.light())?;
+        lights.push(random.omni())?;
     }
     Ok(lights)
+}
+
+fn oriented_lights(alloc: Global, random: &mut Random, count: u32) -> Result<List<Oriented>, Memory>
+    ensures valid { IfOk result (All IsOriented) }
+    ensures few { IfOk result (λ lights. length lights ≤ count) }
+{
+    let mut lights = List::new(alloc);
+    for _ in 0..count {
+        lights.push(random.oriented())?;
+    }
+    Ok(lights)
+}
+
+fn suns(alloc: Global, random: &mut Random, count: u32) -> Result<List<Sun>, Memory>
+    ensures valid { IfOk result (All IsSun) }
+    ensures few { IfOk result (λ lights. length lights ≤ count) }
+{
+    let mut lights = List::new(alloc);
+    for _ in 0..count {
+        lights.push(random.sun())?;
+    }
+    Ok(lights)
+}
+
+/// So many lights, of each kind a third.
+pub fn lights(alloc: Global, random: &mut Random, count: u32) -> Result<Lights, Memory>
+    requires { count ≤ 65536 }
+    ensures { IfOk result AreLights }
+{
+    let third = count / 3;
+    let omni = omni_lights(alloc, random, count - 2 * third)?;
+    let oriented = oriented_lights(alloc, random, third)?;
+    let sun = suns(alloc, random, third)?;
+    Ok(Lights {
+        omni,
+        oriented,
+        sun,
+    })
 }

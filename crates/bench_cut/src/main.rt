@@ -1,4 +1,4 @@
-//! Cuts through a tree of seeded lights at seeded spots, and prints how many lights were evaluated and a checksum.
+//! Cuts through the trees of seeded lights of three kinds at seeded spots, and prints how many lights were evaluated and a checksum.
 //!
 //! The arguments are the number of lights, the number of spots and, for the nanoseconds, the word `time`.
 #![tactic(auto)]
@@ -8,9 +8,7 @@ mod inputs;
 
 use crate::inputs::Random;
 use anyhow::Result;
-use lc_bound::OmniKind;
 use lc_cut::{Bench, Forest};
-use lc_tree::Tree;
 use std::env;
 use std::time::Instant;
 
@@ -48,9 +46,7 @@ fn main(rt: HostRuntime) -> Result<()> {
     let lights = inputs::lights(rt.alloc(), &mut random, order.lights.clamp(1, 65_536))?;
 
     let start = Instant::now(&rt)?;
-    let forest = Forest {
-        omni: Tree::<OmniKind>::build(rt.alloc(), lights.as_slice(), 0, 0)?,
-    };
+    let forest = Forest::build(rt.alloc(), &lights, 0)?;
     let built = start.elapsed(&rt)?.as_nanos();
     let mut bench = Bench::new(rt.alloc(), 1000)?;
 

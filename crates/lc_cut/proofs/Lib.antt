@@ -1,3 +1,4 @@
+pub mod Building
 pub mod RatingLaws
 pub mod Rooted
 pub mod Whole

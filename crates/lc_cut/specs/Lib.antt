@@ -1,10 +1,15 @@
 pub mod Contribution
 pub mod Rating
+pub mod Forest
 pub use Rattle.lc_num.specs.Channels
 pub use Rattle.lc_light.specs.Lights
 pub use Rattle.lc_terms.specs.Spot
 pub use Rattle.lc_terms.specs.Kind
 pub use Rattle.lc_bound.specs.Omni
+pub use Rattle.lc_bound.specs.Oriented
+pub use Rattle.lc_bound.specs.Sun
 pub use Rattle.lc_tree.specs.Node
 pub use Rattle.lc_tree.specs.Rows
+pub use Rattle.lc_tree.specs.Build
+pub use Rattle.lc_words.specs.Words
 pub use Rattle.lc_rated.specs.Cuts

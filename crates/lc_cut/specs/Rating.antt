@@ -1,16 +1,14 @@
--- What the nodes of a light tree have at a spot, and the rated trees of a forest.
+-- What the nodes of a light tree have at a spot.
 use Rattle.std.specs.Prelude.{Option, None, Some}
 use Rattle.lc_num.specs.Channels.{black}
 use Rattle.lc_num.specs.declared.channels.Rgb.{Rgb}
-use Rattle.lc_light.specs.declared.lights.Omni.{Omni}
 use Rattle.lc_terms.specs.Channels.{by_power}
 use Rattle.lc_terms.specs.Kind.{Meaning, factor_of}
 use Rattle.lc_terms.specs.declared.spot.Spot.{Spot}
-use Rattle.lc_bound.specs.Omni.{omni_meaning}
-use Rattle.lc_tree.specs.Node.{Node, Kept, leaf, fork, leader, members, clump_of}
+use Rattle.lc_tree.specs.Node.{Node, leaf, fork, leader, members, clump_of}
 use Rattle.lc_tree.specs.Cover.{power_sum}
 use Rattle.lc_rated.specs.declared.rate.Rate.{Rate}
-use Rattle.lc_rated.specs.Rated.{Rated, Trees}
+use Rattle.lc_rated.specs.Rated.{Rated}
 use Rattle.lc_rated.specs.Rated as rates
 
 module _ {L C : Type 0} where
@@ -33,7 +31,3 @@ module _ {L C : Type 0} where
   abbrev pub rated_root : Meaning L C → Spot → Option (Node L) → Option Rated
   rated_root m spot None = None
   rated_root m spot (Some t) = Some (rated m spot t)
-
--- the rated trees of a tree of omnidirectional lights
-abbrev pub trees_of : Spot → Kept Omni → Trees
-trees_of spot omni = record { omni = rated_root omni_meaning spot omni.root; oriented = None; sun = None }

@@ -1,23 +1,45 @@
 // The lights of a scene in trees, and the cut through them at a spot.
-ghost use Rattle.std.specs.Prelude.{◌≡◌, ◌+◌, ◌*◌, ◌≤◌, ◌⊎◌};
+ghost use Rattle.std.specs.Prelude.{◌≡◌, ◌+◌, ◌*◌, ◌≤◌, ◌⊎◌, IfOk};
+ghost use Rattle.lc_light.specs.Lights.{AreLights};
 ghost use Rattle.lc_terms.specs.Spot.{IsMatte, IsSpot};
-ghost use Rattle.lc_bound.specs.Omni.{omni_meaning};
 ghost use Rattle.lc_rated.specs.Cuts.{IsFraction, IsNear, answer};
 ghost use Rattle.lc_cut.specs.Contribution.{plain};
-ghost use Rattle.lc_cut.specs.Rating.{trees_of};
+ghost use Rattle.lc_cut.specs.Forest.{IsForest, forest_of, light_count, lights_of, trees_of};
 
 use crate::rating::Rating;
-use lc_bound::OmniKind;
-use lc_num::Steps;
+use lc_bound::{OmniKind, OrientedKind, SunKind};
+use lc_light::Lights;
+use lc_num::{Memory, Steps};
 use lc_rated::{Answer, Bench, best_cut};
 use lc_terms::Spot;
 use lc_tree::Tree;
+use std::alloc::Global;
 use std::sync::ledger::Ledger;
 
 /// The lights of a scene, each kind in a tree of its own.
 #[derive(Drop)]
 pub struct Forest {
     pub omni: Tree<OmniKind>,
+    pub oriented: Tree<OrientedKind>,
+    pub sun: Tree<SunKind>,
+}
+
+impl Forest {
+    /// The trees of lists of lights by halving, with the words of streams 0, 1 and 2 of the generator of `rand_pcg`.
+    pub fn build(alloc: Global, lights: &Lights, seed: u64) -> Result<Forest, Memory>
+        requires { AreLights lights.now }
+        ensures value { IfOk result (λ forest. forest ≡ forest_of seed lights.now) }
+        ensures few { IfOk result (λ forest. light_count (lights_of forest) ≤ 65536) }
+    {
+        let omni = Tree::build(alloc, lights.omni.as_slice(), seed, 0)?;
+        let oriented = Tree::build(alloc, lights.oriented.as_slice(), seed, 1)?;
+        let sun = Tree::build(alloc, lights.sun.as_slice(), seed, 2)?;
+        Ok(Forest {
+            omni,
+            oriented,
+            sun,
+        })
+    }
 }
 
 /// When a cut is fine enough.
@@ -29,8 +51,18 @@ pub struct Ask {
     pub size: u32,
 }
 
-/// The light at a matte spot by the best-first cut through the trees (Lightcuts 2005): the answer of the first cut whose
-/// bound is at most `permille` thousandths of its estimate in each channel, or that has the greatest size. Each
+/// What the three trees keep, which each says beside its count.
+fn known(forest: &Forest)
+    requires { light_count (lights_of forest.now) ≤ 65536 }
+    ensures { IsForest forest.now }
+{
+    forest.omni.count();
+    forest.oriented.count();
+    forest.sun.count();
+}
+
+/// The light at a matte spot by the best-first cut through the three trees (Lightcuts 2005): the answer of the first cut
+/// whose bound is at most `permille` thousandths of its estimate in each channel, or that has the greatest size. Each
 /// representative that is evaluated counts one step. It takes no memory.
 pub fn cut<L: Ledger>(
     bench: &mut Bench,
@@ -40,23 +72,21 @@ pub fn cut<L: Ledger>(
     steps: &mut Steps<L>,
 ) -> Answer
     requires bench { bench.old ≡ ask.size }
+    requires few { light_count (lights_of forest.now) ≤ 65536 }
     requires spot { IsSpot spot.now }
     requires matte { IsMatte spot.now }
     requires least { 3 ≤ ask.size }
     requires most { ask.size ≤ 65536 }
     requires permille { ask.permille ≤ 1000 }
-    ensures value { result ≡ answer ask.size ask.permille (trees_of spot.now forest.now.omni) }
-    ensures near { IsNear (plain omni_meaning spot.now forest.now.omni.lights) result }
+    ensures value { result ≡ answer ask.size ask.permille (trees_of spot.now forest.now) }
+    ensures near { IsNear (plain spot.now (lights_of forest.now)) result }
     ensures fraction { (result.size ≡ ask.size) ⊎ IsFraction ask.permille result }
     ensures size { result.size ≤ ask.size }
     ensures evals { result.evals ≤ 2 * ask.size }
     ensures steps { steps.new ≡ steps.old + result.evals }
     ensures bench { bench.new ≡ bench.old }
 {
-    forest.omni.count();
-    let mut rating = Rating {
-        omni: &forest.omni,
-        spot,
-    };
+    known(forest);
+    let mut rating = Rating { forest, spot };
     best_cut(bench, &mut rating, ask.size, ask.permille, steps)
 }

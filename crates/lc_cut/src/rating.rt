@@ -1,51 +1,54 @@
-// Light trees at one spot.
+// The trees of a forest at one spot.
 ghost use Rattle.std.specs.Prelude.{◌≡◌};
 ghost use Rattle.lc_terms.specs.Spot.{IsMatte, IsSpot};
 ghost use Rattle.lc_tree.specs.Node.{count_of};
 
+use crate::forest::Forest;
 use crate::node::rate;
-use lc_bound::OmniKind;
 use lc_num::Steps;
 use lc_rated::{LightKind, Rate, Rater};
 use lc_terms::Spot;
-use lc_tree::Tree;
 use std::sync::ledger::Ledger;
 
-/// A tree of omnidirectional lights at a matte spot.
+/// The trees of a forest at a matte spot.
 pub(crate) struct Rating<'a> {
-    pub(crate) omni: &'a Tree<OmniKind>,
+    pub(crate) forest: &'a Forest,
     pub(crate) spot: &'a Spot,
     ghost valid: { IsSpot spot.now × IsMatte spot.now },
 }
 
 impl Drop for Rating<'_> {
     fn drop(self) {
-        let Self { omni: _, spot: _ } = self;
+        let Self { forest: _, spot: _ } = self;
     }
 }
 
 impl Rater for Rating<'_> {
-    ghost use Rattle.lc_cut.specs.Rating.{trees_of};
+    ghost use Rattle.lc_cut.specs.Forest.{trees_of};
 
-    ghost trees = { λ r. trees_of r.spot.now r.omni.now };
+    ghost trees = { λ r. trees_of r.spot.now r.forest.now };
 
     fn has(&self, kind: LightKind) -> bool {
         match kind {
-            LightKind::Omni => self.omni.count() != 0,
-            LightKind::Oriented => false,
-            LightKind::Sun => false,
+            LightKind::Omni => self.forest.omni.count() != 0,
+            LightKind::Oriented => self.forest.oriented.count() != 0,
+            LightKind::Sun => self.forest.sun.count() != 0,
         }
     }
 
     fn kids(&self, kind: LightKind, node: u32) -> Option<(u32, u32)> {
         match kind {
-            LightKind::Omni => self.omni.kids(node),
-            LightKind::Oriented => None,
-            LightKind::Sun => None,
+            LightKind::Omni => self.forest.omni.kids(node),
+            LightKind::Oriented => self.forest.oriented.kids(node),
+            LightKind::Sun => self.forest.sun.kids(node),
         }
     }
 
-    fn rate<L: Ledger>(&mut self, _kind: LightKind, node: u32, steps: &mut Steps<L>) -> Rate {
-        rate(self.omni, node, self.spot, steps)
+    fn rate<L: Ledger>(&mut self, kind: LightKind, node: u32, steps: &mut Steps<L>) -> Rate {
+        match kind {
+            LightKind::Omni => rate(&self.forest.omni, node, self.spot, steps),
+            LightKind::Oriented => rate(&self.forest.oriented, node, self.spot, steps),
+            LightKind::Sun => rate(&self.forest.sun, node, self.spot, steps),
+        }
     }
 }

@@ -5,6 +5,7 @@ pub mod CutOrder
 pub mod NodeFinding
 pub mod RateSums
 pub mod NodeSteps
+pub mod Slots
 pub mod Refining
 pub mod Starting
 pub mod Looping

@@ -136,8 +136,8 @@ sum_around f (q ∷ qs) (suc at) p x y here =
     let rest = sum_around f qs at p x y here in
     (rw d (omega (arith, rest.0, sum_by-cons f q qs, sum_by-cons f q (take at qs ++ (x ∷ y ∷ drop (at + 1) qs)))), omega (arith, rest.1, sum_by-cons f q qs))
 
-pub map_around : {Y : Type 0} (f : Placed → Y) (cut : List Placed) (i : ℕ) (x y : Placed) → map f (take i cut ++ (x ∷ y ∷ drop (i + 1) cut)) ≡ take i (map f cut) ++ (f x ∷ f y ∷ drop (i + 1) (map f cut))
-map_around f cut i x y = rw (map-append, take-map, drop-map) refl
+pub map_around : {X Y : Type 0} (f : X → Y) (xs : List X) (i : ℕ) (x y : X) → map f (take i xs ++ (x ∷ y ∷ drop (i + 1) xs)) ≡ take i (map f xs) ++ (f x ∷ f y ∷ drop (i + 1) (map f xs))
+map_around f xs i x y = rw (map-append, take-map, drop-map) refl
 
 pub length_around : {A : Type 0} → (xs : List A) (i : ℕ) (x y : A) → i < length xs → length (take i xs ++ (x ∷ y ∷ drop (i + 1) xs)) ≡ length xs + 1
 length_around xs i x y h = omega (arith, length-append (take i xs) (x ∷ y ∷ drop (i + 1) xs), length-take i xs, length-drop (i + 1) xs)

@@ -8,7 +8,7 @@ use Rattle.lc_rated.specs.declared.nodes.Nodes.{Nodes}
 use Rattle.lc_rated.specs.declared.kind.LightKind.{LightKind}
 use Rattle.lc_rated.specs.Rated.{Rated, fork, rate_of, leaf_count, Trees, find, kids_of}
 use Rattle.lc_rated.specs.Cuts.{Placed, refined, roots_of, cut_at, totals_of, AreLimited}
-use Rattle.lc_rated.specs.Nodes.{mark_of, rate_at, rate_key, cut_now, IsCutOf, IsMoved, CanMove}
+use Rattle.lc_rated.specs.Nodes.{mark_of, rate_at, rate_key, rates_of, cut_now, AreFilled, IsCutOf, IsMoved, CanMove}
 use Rattle.lc_rated.proofs.NodeSteps.{Step, placed, some_injective, length_around, map_around, get_map, can_move_est, can_move_bound, keys_small, moved_est, moved_bound}
 
 none_some : {A : Type 0} {x : A} → None ≡ Some x → ⊥
@@ -45,16 +45,16 @@ pub rate_is : (o : Option Rated) (t : Rated) (x : Rate) → o ≡ Some t → IsS
 rate_is o t x e h = rw e at h
 
 -- the rate that stands at the place is the node's
-here_is : (trees : Trees) (nodes : Nodes) → IsCutOf (roots_of trees) nodes → (at : ℕ) (kind : LightKind) (node : ℕ) (s : Step trees (cut_now (roots_of trees) nodes) at kind node) → slice_get nodes.rates.items at ≡ Some s.rate
+here_is : (trees : Trees) (nodes : Nodes) → IsCutOf (roots_of trees) nodes → (at : ℕ) (kind : LightKind) (node : ℕ) (s : Step trees (cut_now (roots_of trees) nodes) at kind node) → slice_get (rates_of nodes) at ≡ Some s.rate
 here_is trees nodes cut at kind node s =
     ap (λ rs. slice_get rs at) cut.rates ∙ get_map rate_at (cut_now (roots_of trees) nodes) at (placed kind node (fork s.rate s.left s.right)) s.here
 
-pub may_move_est : (trees : Trees) (nodes : Nodes) → AreLimited trees → IsCutOf (roots_of trees) nodes → (at : ℕ) (kind : LightKind) (node : ℕ) (s : Step trees (cut_now (roots_of trees) nodes) at kind node) (first second : Rate) → first ≡ rate_of s.left → second ≡ rate_of s.right → (old : Rate) → slice_get nodes.rates.items at ≡ Some old → CanMove nodes.sums.est old.est first.est second.est
+pub may_move_est : (trees : Trees) (nodes : Nodes) → AreLimited trees → IsCutOf (roots_of trees) nodes → (at : ℕ) (kind : LightKind) (node : ℕ) (s : Step trees (cut_now (roots_of trees) nodes) at kind node) (first second : Rate) → first ≡ rate_of s.left → second ≡ rate_of s.right → (old : Rate) → slice_get (rates_of nodes) at ≡ Some old → CanMove nodes.sums.est old.est first.est second.est
 may_move_est trees nodes limited cut at kind node s first second ef es old here =
     let eo : old ≡ s.rate = some_injective (sym here ∙ here_is trees nodes cut at kind node s) in
     rw (cut.sums, ef, es, eo) (can_move_est trees (length nodes.marks.items - length (roots_of trees)) limited at kind node s)
 
-pub may_move_bound : (trees : Trees) (nodes : Nodes) → AreLimited trees → IsCutOf (roots_of trees) nodes → (at : ℕ) (kind : LightKind) (node : ℕ) (s : Step trees (cut_now (roots_of trees) nodes) at kind node) (first second : Rate) → first ≡ rate_of s.left → second ≡ rate_of s.right → (old : Rate) → slice_get nodes.rates.items at ≡ Some old → CanMove nodes.sums.bound old.bound first.bound second.bound
+pub may_move_bound : (trees : Trees) (nodes : Nodes) → AreLimited trees → IsCutOf (roots_of trees) nodes → (at : ℕ) (kind : LightKind) (node : ℕ) (s : Step trees (cut_now (roots_of trees) nodes) at kind node) (first second : Rate) → first ≡ rate_of s.left → second ≡ rate_of s.right → (old : Rate) → slice_get (rates_of nodes) at ≡ Some old → CanMove nodes.sums.bound old.bound first.bound second.bound
 may_move_bound trees nodes limited cut at kind node s first second ef es old here =
     let eo : old ≡ s.rate = some_injective (sym here ∙ here_is trees nodes cut at kind node s) in
     rw (cut.sums, ef, es, eo) (can_move_bound trees (length nodes.marks.items - length (roots_of trees)) limited at kind node s)
@@ -76,8 +76,8 @@ abbrev pub mark_made : LightKind → ℕ → ℕ → Mark
 mark_made kind node key = record { key = key; node = node; kind = kind }
 
 -- the nodes after a step are those of the next cut
-pub next_nodes : (trees : Trees) (nodes more : Nodes) → IsCutOf (roots_of trees) nodes → (at : ℕ) (kind : LightKind) (node : ℕ) (s : Step trees (cut_now (roots_of trees) nodes) at kind node) (l r : ℕ) → Reads trees (cut_now (roots_of trees) nodes) at kind node s l r → (first second : Rate) → first ≡ rate_of s.left → second ≡ rate_of s.right → (k m : ℕ) → k ≡ rate_key first → m ≡ rate_key second → at < length nodes.marks.items → more.marks.items ≡ take at nodes.marks.items ++ (mark_made kind l k ∷ mark_made kind r m ∷ drop (at + 1) nodes.marks.items) → more.rates.items ≡ take at nodes.rates.items ++ (first ∷ second ∷ drop (at + 1) nodes.rates.items) → ((old : Rate) → slice_get nodes.rates.items at ≡ Some old → IsMoved nodes.sums.est old.est first.est second.est more.sums.est) → ((old : Rate) → slice_get nodes.rates.items at ≡ Some old → IsMoved nodes.sums.bound old.bound first.bound second.bound more.sums.bound) → IsCutOf (roots_of trees) more
-next_nodes trees nodes more cut at kind node s l r h first second ef es k m ek em lt marks rates est bound =
+pub next_nodes : (trees : Trees) (nodes more : Nodes) → IsCutOf (roots_of trees) nodes → (at : ℕ) (kind : LightKind) (node : ℕ) (s : Step trees (cut_now (roots_of trees) nodes) at kind node) (l r : ℕ) → Reads trees (cut_now (roots_of trees) nodes) at kind node s l r → (first second : Rate) → first ≡ rate_of s.left → second ≡ rate_of s.right → (k m : ℕ) → k ≡ rate_key first → m ≡ rate_key second → at < length nodes.marks.items → more.marks.items ≡ take at nodes.marks.items ++ (mark_made kind l k ∷ mark_made kind r m ∷ drop (at + 1) nodes.marks.items) → rates_of more ≡ take at (rates_of nodes) ++ (first ∷ second ∷ drop (at + 1) (rates_of nodes)) → AreFilled more.rates.items more.slots.items → length more.rates.items ≡ length nodes.rates.items + 2 → ((old : Rate) → slice_get (rates_of nodes) at ≡ Some old → IsMoved nodes.sums.est old.est first.est second.est more.sums.est) → ((old : Rate) → slice_get (rates_of nodes) at ≡ Some old → IsMoved nodes.sums.bound old.bound first.bound second.bound more.sums.bound) → IsCutOf (roots_of trees) more
+next_nodes trees nodes more cut at kind node s l r h first second ef es k m ek em lt marks rates filled grown est bound =
     let roots : List Placed = roots_of trees in
     let now : List Placed = cut_now roots nodes in
     let x : Placed = placed kind (node + 1) s.left in
@@ -94,13 +94,13 @@ next_nodes trees nodes more cut at kind node s l r h first second ef es k m ek e
     ∙ ap (λ ms. take at ms ++ (mark_of x ∷ mark_of y ∷ drop (at + 1) ms)) cut.marks
     ∙ sym (map_around mark_of now at x y)
     ∙ ap (map mark_of) (sym s.is) in
-    let moved_rates : more.rates.items ≡ map rate_at (refined now) =
-    rates ∙ ap (λ z. take at nodes.rates.items ++ (z ∷ second ∷ drop (at + 1) nodes.rates.items)) ef
-    ∙ ap (λ z. take at nodes.rates.items ++ (rate_at x ∷ z ∷ drop (at + 1) nodes.rates.items)) es
+    let moved_rates : rates_of more ≡ map rate_at (refined now) =
+    rates ∙ ap (λ z. take at (rates_of nodes) ++ (z ∷ second ∷ drop (at + 1) (rates_of nodes))) ef
+    ∙ ap (λ z. take at (rates_of nodes) ++ (rate_at x ∷ z ∷ drop (at + 1) (rates_of nodes))) es
     ∙ ap (λ rs. take at rs ++ (rate_at x ∷ rate_at y ∷ drop (at + 1) rs)) cut.rates
     ∙ sym (map_around rate_at now at x y)
     ∙ ap (map rate_at) (sym s.is) in
-    let here : slice_get nodes.rates.items at ≡ Some s.rate = here_is trees nodes cut at kind node s in
+    let here : slice_get (rates_of nodes) at ≡ Some s.rate = here_is trees nodes cut at kind node s in
     let e : IsMoved (totals_of now).est s.rate.est (rate_of s.left).est (rate_of s.right).est more.sums.est =
     subst (λ (u : Rate). IsMoved (totals_of now).est s.rate.est (rate_of s.left).est u.est more.sums.est) es
     (subst (λ (u : Rate). IsMoved (totals_of now).est s.rate.est u.est second.est more.sums.est) ef
@@ -114,6 +114,8 @@ next_nodes trees nodes more cut at kind node s l r h first second ef es k m ek e
     record {
       some = omega (arith, longer, some);
       marks = moved_marks ∙ ap (map mark_of) (sym next);
+      filled = filled;
       rates = moved_rates ∙ ap (map rate_at) (sym next);
+      rated = omega (arith, longer, grown, cut.rated);
       sums = moved_sums ∙ ap totals_of (sym next);
     }

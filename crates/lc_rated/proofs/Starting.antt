@@ -7,7 +7,7 @@ use Rattle.lc_rated.specs.declared.nodes.Nodes.{Nodes}
 use Rattle.lc_rated.specs.declared.kind.LightKind.{LightKind}
 use Rattle.lc_rated.specs.declared.kind.LightKind.TheVariants as kind
 use Rattle.lc_rated.specs.Rated.{Rated, leaf, fork, rate_of, Trees, tree_of, node_of, find}
-use Rattle.lc_rated.specs.Cuts.{Placed, roots_of, totals_of, AreLimited}
+use Rattle.lc_rated.specs.Cuts.{Placed, root_of, roots_of, totals_of, AreLimited}
 use Rattle.lc_rated.specs.Nodes.{rate_at, rate_key, rate_totals, HasRoom, IsSmall}
 use Rattle.lc_rated.proofs.CutSums.{count_of, tree_sum, tree_sum-roots_of}
 use Rattle.lc_rated.proofs.CutLimits.{totals_small}
@@ -41,6 +41,12 @@ root_rate None x h = absurd h
 root_rate (Some (leaf e)) x h = (leaf e, refl, h)
 root_rate (Some (fork r a b)) x h = (fork r a b, refl, h)
 
+-- the rate of a root is that of the first cut's node
+pub root_rates : (k : LightKind) (o : Option Rated) (x : Rate) → IsSomeAnd (node_of o 0) (λ t. x ≡ rate_of t) → x ∷ [] ≡ map rate_at (root_of k o)
+root_rates k None x h = absurd h
+root_rates k (Some (leaf e)) x h = ap (λ r. r ∷ []) h
+root_rates k (Some (fork r a b)) x h = ap (λ r. r ∷ []) h
+
 -- the key of a root is a number of the code
 pub root_key : (trees : Trees) → AreLimited trees → (k : LightKind) (x : Rate) → IsSomeAnd (find trees k 0) (λ t. x ≡ rate_of t) → rate_key x < 2 ^ 128
 root_key trees limited k x h =
@@ -49,4 +55,4 @@ root_key trees limited k x h =
     rw r.2 (omega (arith, root_sum (λ t. (rate_of t).bound.r) trees k r.0 r.1, root_sum (λ t. (rate_of t).bound.g) trees k r.0 r.1, root_sum (λ t. (rate_of t).bound.b) trees k r.0 r.1, small))
 
 pub less_room : (m n : ℕ) (nodes : Nodes) → m ≤ n → HasRoom n nodes → HasRoom m nodes
-less_room m n nodes le h = record { marks = omega (arith, h.marks, le); rates = omega (arith, h.rates, le) }
+less_room m n nodes le h = record { marks = omega (arith, h.marks, le); slots = omega (arith, h.slots, le); rates = omega (arith, h.rates, le) }

@@ -1,5 +1,6 @@
 -- The nodes of a cut as the loop keeps them.
-use Rattle.std.specs.Prelude.{◌≡◌, ℕ, ◌+◌, ◌-◌, ◌*◌, ◌<◌, ◌≤◌, ◌^◌, ◌==◌, nat_le, ◌&&◌, ◌||◌, Bool, List, length, map, sum_by, vec_capacity}
+use Rattle.std.specs.Prelude.{◌≡◌, ℕ, ◌+◌, ◌-◌, ◌*◌, ◌<◌, ◌≤◌, ◌^◌, ◌==◌, nat_le, ◌&&◌, ◌||◌, Bool, List, length, map, get_or, sum_by, All, vec_capacity}
+use Rattle.lc_num.specs.Channels.{black}
 use Rattle.lc_num.specs.declared.channels.Rgb.{Rgb}
 use Rattle.lc_rated.specs.declared.rate.Rate.{Rate}
 use Rattle.lc_rated.specs.declared.nodes.Mark.{Mark}
@@ -19,15 +20,29 @@ rate_at p = rate_of p.tree
 abbrev pub rate_key : Rate → ℕ
 rate_key r = r.bound.r + r.bound.g + r.bound.b
 
+-- the rates at these slots
+abbrev pub rates_at : List Rate → List ℕ → List Rate
+rates_at rates slots = map (λ slot. get_or rates slot (record { est = black; bound = black })) slots
+
+-- the rates of the nodes, in the nodes' order
+abbrev pub rates_of : Nodes → List Rate
+rates_of nodes = rates_at nodes.rates.items nodes.slots.items
+
+-- at each slot there is a rate
+abbrev pub AreFilled : List Rate → List ℕ → Type 0
+AreFilled rates slots = All (λ slot. slot < length rates) slots
+
 -- the cut of the sequence that has as many nodes
 abbrev pub cut_now : List Placed → Nodes → List Placed
 cut_now roots nodes = cut_at roots (length nodes.marks.items - length roots)
 
--- the nodes are those of a cut of the sequence, with its sums
+-- the nodes are those of a cut of the sequence, with its sums, and each that was rated has its rate
 pub record IsCutOf (roots : List Placed) (nodes : Nodes) : Type 0 where
   pub some : length roots ≤ length nodes.marks.items
   pub marks : nodes.marks.items ≡ map mark_of (cut_now roots nodes)
-  pub rates : nodes.rates.items ≡ map rate_at (cut_now roots nodes)
+  pub filled : AreFilled nodes.rates.items nodes.slots.items
+  pub rates : rates_of nodes ≡ map rate_at (cut_now roots nodes)
+  pub rated : length nodes.rates.items + length roots ≡ 2 * length nodes.marks.items
   pub sums : nodes.sums ≡ totals_of (cut_now roots nodes)
 
 abbrev pub rate_totals : List Rate → Rate
@@ -36,10 +51,11 @@ rate_totals rs = record {
   bound = record { r = sum_by (λ x. x.bound.r) rs; g = sum_by (λ x. x.bound.g) rs; b = sum_by (λ x. x.bound.b) rs };
 }
 
--- there is room for so many nodes
+-- there is room for so many nodes, and for each that is rated on the way to them
 pub record HasRoom (size : ℕ) (nodes : Nodes) : Type 0 where
   pub marks : size ≤ vec_capacity nodes.marks
-  pub rates : size ≤ vec_capacity nodes.rates
+  pub slots : size ≤ vec_capacity nodes.slots
+  pub rates : 2 * size ≤ vec_capacity nodes.rates
 
 -- in each channel one part of a sum gave way to two others
 pub record IsMoved (sum old left right next : Rgb) : Type 0 where

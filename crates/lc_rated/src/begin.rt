@@ -2,10 +2,10 @@
 ghost use Rattle.std.specs.Prelude.{◌≡◌, ◌+◌, ◌≤◌, ◌++◌, length, map};
 ghost use Rattle.lc_rated.specs.Rated.{tree_of};
 ghost use Rattle.lc_rated.specs.Cuts.{root_of, roots_of, AreLimited};
-ghost use Rattle.lc_rated.specs.Nodes.{HasRoom, IsCutOf, mark_of, rate_at};
+ghost use Rattle.lc_rated.specs.Nodes.{AreFilled, HasRoom, IsCutOf, mark_of, rate_at, rates_of};
 
 use crate::kind::LightKind;
-use crate::nodes::{Mark, Nodes, key, totals};
+use crate::nodes::{Mark, Nodes, key, put, totals};
 use crate::rater::Rater;
 use lc_num::Steps;
 use std::sync::ledger::Ledger;
@@ -19,10 +19,16 @@ fn start<R: Rater, L: Ledger>(
 )
     requires limited { AreLimited (R.trees rater.old) }
     requires room { HasRoom (length nodes.old.marks.items + 1) nodes.old }
-    requires beside { length nodes.old.rates.items ≡ length nodes.old.marks.items }
+    requires slots_beside { length nodes.old.slots.items ≡ length nodes.old.marks.items }
+    requires rates_beside { length nodes.old.rates.items ≡ length nodes.old.marks.items }
+    requires filled { AreFilled nodes.old.rates.items nodes.old.slots.items }
     ensures trees { R.trees rater.new ≡ R.trees rater.old }
     ensures marks { nodes.new.marks.items ≡ nodes.old.marks.items ++ map mark_of (root_of kind (tree_of (R.trees rater.old) kind)) }
     ensures rates { nodes.new.rates.items ≡ nodes.old.rates.items ++ map rate_at (root_of kind (tree_of (R.trees rater.old) kind)) }
+    ensures in_order { rates_of nodes.new ≡ rates_of nodes.old ++ map rate_at (root_of kind (tree_of (R.trees rater.old) kind)) }
+    ensures filled { AreFilled nodes.new.rates.items nodes.new.slots.items }
+    ensures slots_beside { length nodes.new.slots.items ≡ length nodes.new.marks.items }
+    ensures rates_beside { length nodes.new.rates.items ≡ length nodes.new.marks.items }
     ensures more { length nodes.new.marks.items ≤ length nodes.old.marks.items + 1 }
     ensures room { (n : _) → HasRoom n nodes.old → HasRoom n nodes.new }
     ensures steps { steps.new ≡ steps.old + length (root_of kind (tree_of (R.trees rater.old) kind)) }
@@ -34,8 +40,9 @@ fn start<R: Rater, L: Ledger>(
             node: 0,
             kind,
         };
-        let _ = nodes.marks.push(mark);
-        let _ = nodes.rates.push(rate);
+        put(&mut nodes.marks, mark);
+        put(&mut nodes.slots, nodes.rates.len());
+        put(&mut nodes.rates, rate);
     }
 }
 
@@ -50,6 +57,7 @@ pub fn begin<R: Rater, L: Ledger>(nodes: &mut Nodes, rater: &mut R, steps: &mut 
     ensures steps { steps.new ≡ steps.old + length (roots_of (R.trees rater.old)) }
 {
     nodes.marks.clear();
+    nodes.slots.clear();
     nodes.rates.clear();
     start(nodes, rater, LightKind::Omni, steps);
     start(nodes, rater, LightKind::Oriented, steps);

@@ -37,13 +37,19 @@ impl Bench {
         ensures { IfOk result (λ b. b ≡ size) }
     {
         let marks = Vec::with_capacity(alloc, size as usize)?;
-        let rates = Vec::with_capacity(alloc, size as usize)?;
+        let slots = Vec::with_capacity(alloc, size as usize)?;
+        let rates = Vec::with_capacity(alloc, 2 * size as usize)?;
         let sums = Rate {
             est: BLACK,
             bound: BLACK,
         };
         Ok(Bench {
-            nodes: Nodes { marks, rates, sums },
+            nodes: Nodes {
+                marks,
+                slots,
+                rates,
+                sums,
+            },
             size,
         })
     }

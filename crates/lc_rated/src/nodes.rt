@@ -1,8 +1,8 @@
 // The nodes of a cut in order, with running sums.
-ghost use Rattle.std.specs.Prelude.{◌≡◌, ◌+◌, ◌<◌, ◌≤◌, ◌^◌, ◌∷◌, ◌++◌, Some, length, take, drop, slice_get, vec_len, vec_capacity};
+ghost use Rattle.std.specs.Prelude.{◌≡◌, ◌+◌, ◌*◌, ◌/◌, ◌<◌, ◌≤◌, ◌^◌, [], ◌∷◌, ◌++◌, Some, length, take, drop, slice_get, vec_len, vec_capacity};
 ghost use Rattle.std.specs.List.{IsFirstMaxByKey};
 ghost use Rattle.lc_num.specs.Channels.{plus};
-ghost use Rattle.lc_rated.specs.Nodes.{CanMove, HasRoom, IsMoved, IsSmall, mark_key, rate_key, rate_totals, sums_stop};
+ghost use Rattle.lc_rated.specs.Nodes.{AreFilled, CanMove, HasRoom, IsMoved, IsSmall, mark_key, rate_key, rate_totals, rates_of, sums_stop};
 
 use crate::kind::LightKind;
 use crate::rate::Rate;
@@ -18,11 +18,13 @@ pub struct Mark {
     pub kind: LightKind,
 }
 
-/// The nodes of a cut in order of kind and number. Marks and rates stand side by side, so that the search for the
-/// greatest key reads the marks alone.
+/// The nodes of a cut in order of kind and number, so that the search for the greatest key reads the marks alone.
 #[derive(Drop)]
 pub struct Nodes {
     pub marks: Vec<Mark>,
+    /// Beside each mark the place of its node's rate.
+    pub slots: Vec<usize>,
+    /// The rates in the order in which they came, so that none has to make room for others.
     pub rates: Vec<Rate>,
     pub sums: Rate,
 }
@@ -79,21 +81,42 @@ pub fn key(rate: Rate) -> u128
     rate.bound.r + rate.bound.g + rate.bound.b
 }
 
-/// The place of the first mark of greatest key.
+/// The upper half of a key.
+fn upper(key: u128) -> u64
+    ensures { result ≡ key / 2 ^ 64 }
+{
+    (key >> 64) as u64
+}
+
+/// The place of the first mark of greatest key. Nearly all keys are passed over by their upper halves alone.
 pub fn greatest(marks: &[Mark]) -> usize
     requires { 0 < length marks.now }
     ensures { IsFirstMaxByKey mark_key marks.now (length marks.now) result }
 {
     let mut best = 0;
     let mut most = marks[0].key;
+    let mut high = upper(most);
     for i in 1..marks.len() {
         let key = marks[i].key;
+        if upper(key) < high {
+            continue;
+        }
         if most < key {
             best = i;
             most = key;
+            high = upper(key);
         }
     }
     best
+}
+
+/// Puts an item at the end, where there is room for it.
+pub fn put<T: Copy>(items: &mut Vec<T>, item: T)
+    requires { vec_len items.old < vec_capacity items.old }
+    ensures items { items.new.items ≡ items.old.items ++ item ∷ [] }
+    ensures room { vec_capacity items.old ≤ vec_capacity items.new }
+{
+    let _ = items.push(item);
 }
 
 /// Puts two items in the place of one.
@@ -121,25 +144,58 @@ pub fn is_done(nodes: &Nodes, size: u32, permille: u32) -> bool
             && 1000 * bound.b <= permille * est.b)
 }
 
+/// The rate of the node at a place.
+fn rate_beside(nodes: &Nodes, at: usize) -> Rate
+    requires at { at < length nodes.now.slots.items }
+    requires filled { AreFilled nodes.now.rates.items nodes.now.slots.items }
+    ensures { slice_get (rates_of nodes.now) at ≡ Some result }
+{
+    nodes.rates[nodes.slots[at]]
+}
+
+/// Puts the rates of two nodes in the place of one.
+fn replace_rate(nodes: &mut Nodes, at: usize, rates: (Rate, Rate))
+    requires at { at < length nodes.old.slots.items }
+    requires filled { AreFilled nodes.old.rates.items nodes.old.slots.items }
+    requires slots_room { vec_len nodes.old.slots < vec_capacity nodes.old.slots }
+    requires rates_room { vec_len nodes.old.rates + 2 ≤ vec_capacity nodes.old.rates }
+    ensures filled { AreFilled nodes.new.rates.items nodes.new.slots.items }
+    ensures rates { rates_of nodes.new ≡ take at (rates_of nodes.old) ++ (rates.0 ∷ rates.1 ∷ drop (at + 1) (rates_of nodes.old)) }
+    ensures more { length nodes.new.rates.items ≡ length nodes.old.rates.items + 2 }
+    ensures marks { nodes.new.marks ≡ nodes.old.marks }
+    ensures sums { nodes.new.sums ≡ nodes.old.sums }
+    ensures slots_room { vec_capacity nodes.old.slots ≤ vec_capacity nodes.new.slots }
+    ensures rates_room { vec_capacity nodes.old.rates ≤ vec_capacity nodes.new.rates }
+{
+    let slot = nodes.rates.len();
+    put(&mut nodes.rates, rates.0);
+    put(&mut nodes.rates, rates.1);
+    split(&mut nodes.slots, at, slot, slot + 1);
+}
+
 /// Puts two nodes in the place of one.
 pub fn replace(nodes: &mut Nodes, at: usize, marks: (Mark, Mark), rates: (Rate, Rate))
     requires marks_at { at < length nodes.old.marks.items }
-    requires rates_at { at < length nodes.old.rates.items }
+    requires slots_at { at < length nodes.old.slots.items }
+    requires filled { AreFilled nodes.old.rates.items nodes.old.slots.items }
     requires room { HasRoom (length nodes.old.marks.items + 1) nodes.old }
-    requires beside { length nodes.old.rates.items ≡ length nodes.old.marks.items }
-    requires est { (old : _) → slice_get nodes.old.rates.items at ≡ Some old → CanMove nodes.old.sums.est old.est rates.0.est rates.1.est }
-    requires bound { (old : _) → slice_get nodes.old.rates.items at ≡ Some old → CanMove nodes.old.sums.bound old.bound rates.0.bound rates.1.bound }
+    requires beside { length nodes.old.slots.items ≡ length nodes.old.marks.items }
+    requires rated { length nodes.old.rates.items ≤ 2 * length nodes.old.marks.items }
+    requires est { (old : _) → slice_get (rates_of nodes.old) at ≡ Some old → CanMove nodes.old.sums.est old.est rates.0.est rates.1.est }
+    requires bound { (old : _) → slice_get (rates_of nodes.old) at ≡ Some old → CanMove nodes.old.sums.bound old.bound rates.0.bound rates.1.bound }
     ensures marks { nodes.new.marks.items ≡ take at nodes.old.marks.items ++ (marks.0 ∷ marks.1 ∷ drop (at + 1) nodes.old.marks.items) }
-    ensures rates { nodes.new.rates.items ≡ take at nodes.old.rates.items ++ (rates.0 ∷ rates.1 ∷ drop (at + 1) nodes.old.rates.items) }
-    ensures est { (old : _) → slice_get nodes.old.rates.items at ≡ Some old → IsMoved nodes.old.sums.est old.est rates.0.est rates.1.est nodes.new.sums.est }
-    ensures bound { (old : _) → slice_get nodes.old.rates.items at ≡ Some old → IsMoved nodes.old.sums.bound old.bound rates.0.bound rates.1.bound nodes.new.sums.bound }
+    ensures filled { AreFilled nodes.new.rates.items nodes.new.slots.items }
+    ensures rates { rates_of nodes.new ≡ take at (rates_of nodes.old) ++ (rates.0 ∷ rates.1 ∷ drop (at + 1) (rates_of nodes.old)) }
+    ensures more { length nodes.new.rates.items ≡ length nodes.old.rates.items + 2 }
+    ensures est { (old : _) → slice_get (rates_of nodes.old) at ≡ Some old → IsMoved nodes.old.sums.est old.est rates.0.est rates.1.est nodes.new.sums.est }
+    ensures bound { (old : _) → slice_get (rates_of nodes.old) at ≡ Some old → IsMoved nodes.old.sums.bound old.bound rates.0.bound rates.1.bound nodes.new.sums.bound }
     ensures room { (n : _) → HasRoom n nodes.old → HasRoom n nodes.new }
 {
-    let old = nodes.rates[at];
+    let old = rate_beside(nodes, at);
     nodes.sums = Rate {
         est: moved(nodes.sums.est, old.est, rates.0.est, rates.1.est),
         bound: moved(nodes.sums.bound, old.bound, rates.0.bound, rates.1.bound),
     };
     split(&mut nodes.marks, at, marks.0, marks.1);
-    split(&mut nodes.rates, at, rates.0, rates.1);
+    replace_rate(nodes, at, rates);
 }

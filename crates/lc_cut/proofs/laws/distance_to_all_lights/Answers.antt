@@ -1,10 +1,10 @@
 use Rattle.lc_rated.proofs.CutSequence.{fraction}
-use Rattle.lc_cut.specs.Rating.{trees_of}
+use Rattle.lc_cut.specs.Forest.{trees_of}
 use Rattle.lc_cut.proofs.Whole.{answer_near}
 use Rattle.lc_cut.proofs.laws.distance_to_all_lights.Goals as goal
 
 pub returns-clause-near : goal.returns-clause-near
-returns-clause-near c = λ size permille spot omni hs t. answer_near spot hs omni t size permille
+returns-clause-near c = λ size permille spot forest hs h. answer_near spot hs forest h size permille
 
 pub returns-clause-fraction : goal.returns-clause-fraction
-returns-clause-fraction c = λ size permille spot omni least. fraction size permille (trees_of spot omni) least
+returns-clause-fraction c = λ size permille spot forest least. fraction size permille (trees_of spot forest) least

@@ -66,7 +66,7 @@ returns-in-Some-clause-cut g c =
     let read = reads trees _ c.leading-at.result.0 c.leading-at.result.1.kind c.leading-at.result.1.node s c.in-Some.left c.in-Some.right c.in-Some.ensures in
     let one : c.rate-first.result ≡ rate_of s.left = rate_is (find trees c.leading-at.result.1.kind c.in-Some.left) s.left c.rate-first.result (left_is trees _ c.leading-at.result.0 c.leading-at.result.1.kind c.leading-at.result.1.node s c.in-Some.left c.in-Some.right read) c.rate-first.ensures.value in
     let two : c.rate-second.result ≡ rate_of s.right = rate_is (find trees c.leading-at.result.1.kind c.in-Some.right) s.right c.rate-second.result (right_is trees _ c.leading-at.result.0 c.leading-at.result.1.kind c.leading-at.result.1.node s c.in-Some.left c.in-Some.right read) (subst (λ (t : Trees). IsSomeAnd (find t c.leading-at.result.1.kind c.in-Some.right) (λ u. c.rate-second.result ≡ rate_of u)) c.rate-first.ensures.trees c.rate-second.ensures.value) in
-    next_nodes trees c.args.nodes.now c.replace.new.nodes c.requires.cut c.leading-at.result.0 c.leading-at.result.1.kind c.leading-at.result.1.node s c.in-Some.left c.in-Some.right read c.rate-first.result c.rate-second.result one two c.key.result c.key-in-Some.result c.key.ensures c.key-in-Some.ensures c.leading-at.ensures.first.0 c.replace.ensures.marks c.replace.ensures.rates c.replace.ensures.est c.replace.ensures.bound
+    next_nodes trees c.args.nodes.now c.replace.new.nodes c.requires.cut c.leading-at.result.0 c.leading-at.result.1.kind c.leading-at.result.1.node s c.in-Some.left c.in-Some.right read c.rate-first.result c.rate-second.result one two c.key.result c.key-in-Some.result c.key.ensures c.key-in-Some.ensures c.leading-at.ensures.first.0 c.replace.ensures.marks c.replace.ensures.rates c.replace.ensures.filled c.replace.ensures.more c.replace.ensures.est c.replace.ensures.bound
 
 pub returns-in_default-clause-more : goal.returns-in_default-clause-more
 returns-in_default-clause-more g c =

@@ -73,3 +73,12 @@ returns-clause-value g c =
     let few : length roots ≤ c.args.size = few_of c.args.size trees c.requires.least in
     let test : stops c.args.size c.args.permille (cut_now roots c.loop-nodes.nodes) ≡ true = sym (now_stops c.args.size c.args.permille roots c.loop-nodes.nodes c.loop-nodes.invariant.cut) ∙ sym c.loop-nodes-test.ensures in
     now_answer c.args.size c.args.permille trees c.loop-nodes.nodes few c.loop-nodes.invariant.cut c.loop-nodes.invariant.going test c.answer_at.result c.answer_at.ensures.size (omega (arith, c.answer_at.ensures.evals, c.len-roots.ensures, c.begin.ensures.count, c.begin.new.nodes.marks.ok.0)) c.answer_at.ensures.est c.answer_at.ensures.bound
+
+pub loop-nodes-init : goal.loop-nodes-init
+loop-nodes-init g c = record {
+  trees = c.begin.ensures.trees;
+  cut = c.begin.ensures.cut;
+  going = λ j lt. absurd (omega (arith, lt, c.begin.ensures.count));
+  steps = omega (arith, c.begin.ensures.steps, c.begin.ensures.count);
+  room = c.begin.ensures.room c.args.size c.requires.room;
+}

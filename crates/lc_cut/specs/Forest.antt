@@ -1,0 +1,45 @@
+-- The trees of a forest: their lights, what holds of them, and what they have at a spot.
+use Rattle.std.specs.Prelude.{ℕ, ◌+◌, ◌≤◌, length}
+use Rattle.lc_light.specs.Lights.{IsOmni, IsOriented, IsSun}
+use Rattle.lc_light.specs.declared.lights.Lights.{Lights}
+use Rattle.lc_terms.specs.declared.spot.Spot.{Spot}
+use Rattle.lc_words.specs.Words.{stream_word}
+use Rattle.lc_bound.specs.Omni.{omni_meaning}
+use Rattle.lc_bound.specs.Oriented.{oriented_meaning}
+use Rattle.lc_bound.specs.Sun.{sun_meaning}
+use Rattle.lc_tree.specs.Build.{tree_of}
+use Rattle.lc_tree.specs.Rows.{IsTreeIf}
+use Rattle.lc_rated.specs.Rated.{Trees}
+use Rattle.lc_cut.specs.declared.forest.Forest.{Forest}
+use Rattle.lc_cut.specs.Rating.{rated_root}
+
+-- the trees of lists of lights by halving, with the words of streams 0, 1 and 2
+abbrev pub forest_of : ℕ → Lights → Forest
+forest_of seed lights = record {
+  omni = record { lights = lights.omni; root = tree_of omni_meaning (stream_word seed 0) lights.omni };
+  oriented = record { lights = lights.oriented; root = tree_of oriented_meaning (stream_word seed 1) lights.oriented };
+  sun = record { lights = lights.sun; root = tree_of sun_meaning (stream_word seed 2) lights.sun };
+}
+
+-- the lights of the three trees
+abbrev pub lights_of : Forest → Lights
+lights_of forest = record { omni = forest.omni.lights; oriented = forest.oriented.lights; sun = forest.sun.lights }
+
+-- how many lights of all kinds there are
+abbrev pub light_count : Lights → ℕ
+light_count lights = length lights.omni + length lights.oriented + length lights.sun
+
+-- trees over valid lights, whatever their shapes, with at most 65,536 lights in all
+pub record IsForest (forest : Forest) : Type 0 where
+  pub omni : IsTreeIf IsOmni forest.omni
+  pub oriented : IsTreeIf IsOriented forest.oriented
+  pub sun : IsTreeIf IsSun forest.sun
+  pub few : light_count (lights_of forest) ≤ 65536
+
+-- the rated trees of a forest
+abbrev pub trees_of : Spot → Forest → Trees
+trees_of spot forest = record {
+  omni = rated_root omni_meaning spot forest.omni.root;
+  oriented = rated_root oriented_meaning spot forest.oriented.root;
+  sun = rated_root sun_meaning spot forest.sun.root;
+}

@@ -7,17 +7,14 @@ use Rattle.lc_num.proofs.ScaledLemmas.{scaled_within}
 use Rattle.lc_desk.specs.Desk.{DeskState, Files}
 use Rattle.lc_light.specs.LightFile.{fault_in, lights}
 use Rattle.lc_light.specs.declared.lights.Lights.{Lights}
-use Rattle.lc_light.specs.declared.lights.Omni.{Omni}
 use Rattle.lc_light.specs.Lights.{AreLights}
 use Rattle.lc_light.proofs.ValidLights.{lights_valid}
 use Rattle.lc_terms.specs.Spot.{IsSpot}
 use Rattle.lc_terms.specs.declared.spot.Spot.{Spot}
-use Rattle.lc_bound.specs.Omni.{omni_meaning}
-use Rattle.lc_tree.specs.Node.{Kept}
-use Rattle.lc_words.specs.Words.{stream_word}
-use Rattle.lc_tree.proofs.Halving.{tree_of_is}
 use Rattle.lc_rated.proofs.CutSequence.{fraction, size_most, evals_most}
-use Rattle.lc_cut.specs.Rating.{trees_of}
+use Rattle.lc_cut.specs.declared.forest.Forest.{Forest}
+use Rattle.lc_cut.specs.Forest.{forest_of, trees_of}
+use Rattle.lc_cut.proofs.Building.{forest_of_is}
 use Rattle.lc_cut.proofs.Whole.{answer_near}
 use Rattle.lc_tool.specs.declared.status.Source.{Source}
 use Rattle.lc_tool.specs.declared.status.Source.TheVariants as source
@@ -26,7 +23,7 @@ use Rattle.lc_tool.specs.Course.{Course, Refusal, goes_on, and_then, at_once}
 use Rattle.lc_tool.specs.Lines.{file_limit}
 use Rattle.lc_tool.specs.Words.{Command, probe}
 use Rattle.lc_tool.specs.Written.{Written, wrote}
-use Rattle.lc_tool.specs.Outcome.{within, text_of, unless_faulty, lights_of, omni_tree, probe_size, probe_permille, probe_spot, probe_answer, report_of, probe_course, course_of}
+use Rattle.lc_tool.specs.Outcome.{within, text_of, unless_faulty, lights_of, probe_size, probe_permille, probe_spot, probe_answer, report_of, probe_course, course_of}
 use Rattle.lc_tool.specs.Probed.{ProbeRecorded, Recorded}
 use Rattle.lc_tool.specs.Status.{code}
 use Rattle.lc_tool.specs.Ends.{Counts}
@@ -96,9 +93,8 @@ probe_recorded name place direction files before now steps_before steps_now w at
     let given = lights_given name files went.value went.stepped in
     let is : w ≡ report_of (probe_answer place direction (lights given.text 0)) = sym (ok_same _ _ went.went) ∙ ap (λ l. report_of (probe_answer place direction l)) (sym given.same) in
     let spot : Spot = probe_spot place direction in
-    let tree : Kept Omni = omni_tree (lights given.text 0) in
+    let forest : Forest = forest_of 0 (lights given.text 0) in
     let valid : AreLights (lights given.text 0) = lights_valid given.text 0 given.right in
-    let few : length (lights given.text 0).omni ≤ 65536 = omega (arith, valid.count) in
     record {
       text = given.text;
       read = given.read;
@@ -106,10 +102,10 @@ probe_recorded name place direction files before now steps_before steps_now w at
       answer = probe_answer place direction (lights given.text 0);
       recorded = slots ∙ ap (λ w. wrote w before.slots) is;
       cut = refl;
-      near = answer_near spot (spot_valid place direction at) tree (tree_of_is omni_meaning (stream_word 0 0) tree.lights valid.omni few) probe_size probe_permille;
-      fraction = fraction probe_size probe_permille (trees_of spot tree) (omega arith);
-      size = size_most probe_size probe_permille (trees_of spot tree) (omega arith);
-      evals = evals_most probe_size probe_permille (trees_of spot tree) (omega arith);
+      near = answer_near spot (spot_valid place direction at) forest (forest_of_is 0 (lights given.text 0) valid) probe_size probe_permille;
+      fraction = fraction probe_size probe_permille (trees_of spot forest) (omega arith);
+      size = size_most probe_size probe_permille (trees_of spot forest) (omega arith);
+      evals = evals_most probe_size probe_permille (trees_of spot forest) (omega arith);
       counted = counted ∙ ap (λ w. steps_before + w.evals) is;
     }
 

@@ -20,6 +20,8 @@ pub use Rattle.lc_light.specs.Numbers
 pub use Rattle.lc_terms.specs.Spot
 pub use Rattle.lc_terms.specs.Kind
 pub use Rattle.lc_bound.specs.Omni
+pub use Rattle.lc_bound.specs.Oriented
+pub use Rattle.lc_bound.specs.Sun
 pub use Rattle.lc_tree.specs.Node
 pub use Rattle.lc_tree.specs.Build
 pub use Rattle.lc_words.specs.Words as StreamWords
@@ -27,5 +29,6 @@ pub use Rattle.lc_rated.specs.Rated
 pub use Rattle.lc_rated.specs.Cuts
 pub use Rattle.lc_cut.specs.Contribution
 pub use Rattle.lc_cut.specs.Rating
+pub use Rattle.lc_cut.specs.Forest
 pub mod Meant
 pub mod Settled

@@ -7,15 +7,10 @@ use Rattle.lc_num.specs.declared.vectors.Vec3.{Vec3}
 use Rattle.lc_desk.specs.Desk.{Files}
 use Rattle.lc_light.specs.LightFile.{fault_in, lights}
 use Rattle.lc_light.specs.declared.lights.Lights.{Lights}
-use Rattle.lc_light.specs.declared.lights.Omni.{Omni}
-use Rattle.lc_bound.specs.Omni.{omni_meaning}
 use Rattle.lc_terms.specs.declared.spot.Spot.{Spot}
-use Rattle.lc_tree.specs.Node.{Kept}
-use Rattle.lc_words.specs.Words.{stream_word}
-use Rattle.lc_tree.specs.Build.{tree_of}
 use Rattle.lc_rated.specs.declared.answer.Answer.{Answer}
 use Rattle.lc_rated.specs.Cuts.{answer}
-use Rattle.lc_cut.specs.Rating.{trees_of}
+use Rattle.lc_cut.specs.Forest.{forest_of, trees_of}
 use Rattle.lc_tool.specs.declared.status.Source.{Source}
 use Rattle.lc_tool.specs.declared.status.Source.TheVariants as source
 use Rattle.lc_tool.specs.Status.{source_code}
@@ -58,10 +53,6 @@ probe_spot place direction = record {
   ns = 0;
 }
 
--- the tree of a file's omnidirectional lights
-abbrev pub omni_tree : Lights → Kept Omni
-omni_tree lights = record { lights = lights.omni; root = tree_of omni_meaning (stream_word 0 0) lights.omni }
-
 -- the greatest size of a probe's cut, and how many thousandths of the estimate the bound may be
 abbrev pub probe_size : ℕ
 probe_size = 1000
@@ -69,10 +60,10 @@ probe_size = 1000
 abbrev pub probe_permille : ℕ
 probe_permille = 20
 
--- the answer of the chosen cut
+-- the answer of the chosen cut through the trees of a file's lights, under the seed 0
 unfoldable pub probe_answer : Vec3 → Vec3 → Lights → Answer
 probe_answer place direction lights =
-    answer probe_size probe_permille (trees_of (probe_spot place direction) (omni_tree lights))
+    answer probe_size probe_permille (trees_of (probe_spot place direction) (forest_of 0 lights))
 
 abbrev pub report_of : Answer → Written
 report_of answer = record { picture = None; bounds = None; report = record_line answer; evals = answer.evals }

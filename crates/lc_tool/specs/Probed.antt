@@ -3,7 +3,6 @@ use Rattle.std.specs.Prelude.{◌≡◌, ◌+◌, ◌*◌, ◌≤◌, ◌⊎◌,
 use Rattle.lc_num.specs.declared.vectors.Vec3.{Vec3}
 use Rattle.lc_desk.specs.Desk.{DeskState, Files, appended}
 use Rattle.lc_light.specs.LightFile.{fault_in, lights}
-use Rattle.lc_bound.specs.Omni.{omni_meaning}
 use Rattle.lc_cut.specs.Contribution.{plain}
 use Rattle.lc_rated.specs.declared.answer.Answer.{Answer}
 use Rattle.lc_rated.specs.Cuts.{IsNear, IsFraction}
@@ -21,7 +20,7 @@ pub record ProbeRecorded (name : List ℕ) (place direction : Vec3) (files : Fil
   pub answer : Answer
   pub recorded : now.slots ≡ record before.slots { report = appended (record_line answer) before.slots.report }
   pub cut : answer ≡ probe_answer place direction (lights text 0)
-  pub near : IsNear (plain omni_meaning (probe_spot place direction) (lights text 0).omni) answer
+  pub near : IsNear (plain (probe_spot place direction) (lights text 0)) answer
   pub fraction : (answer.size ≡ probe_size) ⊎ IsFraction probe_permille answer
   pub size : answer.size ≤ probe_size
   pub evals : answer.evals ≤ 2 * probe_size

@@ -4,7 +4,7 @@ ghost use Rattle.lc_num.specs.Vectors.{Within};
 ghost use Rattle.lc_light.specs.Lights.{AreLights};
 ghost use Rattle.lc_terms.specs.Spot.{IsSpot, IsMatte};
 ghost use Rattle.lc_tool.specs.Course.{at_once};
-ghost use Rattle.lc_tool.specs.Outcome.{omni_tree, probe_spot, probe_answer, probe_course, report_of, IsReportOnly};
+ghost use Rattle.lc_tool.specs.Outcome.{probe_spot, probe_answer, probe_course, report_of, IsReportOnly};
 ghost use Rattle.lc_tool.specs.Ends.{Ends, Counts};
 
 use crate::note::note_memory;
@@ -12,13 +12,11 @@ use crate::read::read_light_file;
 use crate::record_line::record_line;
 use crate::status::{Status, Stop};
 use crate::write::{put_report, settle};
-use lc_bound::OmniKind;
 use lc_cut::{Answer, Ask, Bench, Forest, cut};
 use lc_desk::Desk;
 use lc_light::Lights;
 use lc_num::{Colour, Memory, Steps, Vec3, scaled};
 use lc_terms::Spot;
-use lc_tree::Tree;
 use std::alloc::Global;
 use std::sync::ledger::Ledger;
 
@@ -48,15 +46,6 @@ fn spot_at(place: Vec3, direction: Vec3) -> Spot
     }
 }
 
-/// The trees of a file's lights.
-fn forest_of(alloc: Global, lights: &Lights) -> Result<Forest, Memory>
-    requires { AreLights lights.now }
-    ensures { IfOk result (λ forest. forest.omni ≡ omni_tree lights.now) }
-{
-    let omni = Tree::<OmniKind>::build(alloc, lights.omni.as_slice(), 0, 0)?;
-    Ok(Forest { omni })
-}
-
 const ASK: Ask = Ask {
     permille: 20,
     size: 1000,
@@ -76,7 +65,7 @@ fn answer_at<L: Ledger>(
     ensures value { IfOk result (λ answer. answer ≡ probe_answer place direction lights.now) }
     ensures steps { IfOk result (λ answer. steps.new ≡ steps.old + answer.evals) }
 {
-    let forest = forest_of(alloc, lights)?;
+    let forest = Forest::build(alloc, lights, 0)?;
     let mut bench = Bench::new(alloc, ASK.size)?;
     let spot = spot_at(place, direction);
     Ok(cut(&mut bench, &forest, &spot, ASK, steps))

@@ -63,6 +63,28 @@ fn answers_the_light_at_the_origin(rt: HostRuntime) -> Result<(), Fail> {
             "point 1 0 1 1 1 1\npoint -1 0 -1 1 1 1\n",
             "2 3 2317000000000000000000 2317000000000000000000 2317000000000000000000 0 0 0\n",
         ),
+        (
+            "sun 0 0 5 1 1 1",
+            "1 1 6553600000000000000000 6553600000000000000000 6553600000000000000000 0 0 0\n",
+        ),
+        ("sun 0 0 -5 1 1 1", "1 1 0 0 0 0 0 0\n"),
+        (
+            "point 0 0 1 1 1 1\nsun 0 0 5 1 1 1",
+            "2 2 13107200000000000000000 13107200000000000000000 13107200000000000000000 0 0 0\n",
+        ),
+        (
+            "area 0 0 1 0 0.0001 0 0.0001 0 0 1 1 1 3",
+            "3 5 6553600000000000000000 6553600000000000000000 6553600000000000000000 0 0 0\n",
+        ),
+        // An area that shines upwards gives nothing below.
+        (
+            "area 0 0 1 0.0001 0 0 0 0.0001 0 1 1 1 3",
+            "1 1 0 0 0 0 0 0\n",
+        ),
+        (
+            "sun 0 0 1 1 1 1\npoint 0 0 1 1 1 1\narea 0 0 1 0 0.0001 0 0.0001 0 0 1 1 1 1",
+            "3 3 19660800000000000000000 19660800000000000000000 19660800000000000000000 0 0 0\n",
+        ),
     ];
     for (text, line) in rows {
         let mut desk = desk_with(rt.alloc(), text.as_bytes())?;
@@ -82,16 +104,19 @@ fn lines(alloc: Global, count: u32) -> Result<Vec<u8>, Memory> {
 }
 
 #[test]
-fn takes_a_thousand_lights(rt: HostRuntime) -> Result<(), Fail> {
-    let mut desk = desk_with(rt.alloc(), &lines(rt.alloc(), 1000)?)?;
-    assert_eq!(rt; serve(rt.alloc(), &ORIGIN, &mut desk), 0);
-    assert_eq!(rt; desk.told(Slot::Report), b"1 1 0 0 0 0 0 0\n".as_slice());
-    let mut desk = desk_with(rt.alloc(), &lines(rt.alloc(), 1001)?)?;
+fn takes_many_lights(rt: HostRuntime) -> Result<(), Fail> {
+    for count in [1000, 1001, 65_536] {
+        let mut desk = desk_with(rt.alloc(), &lines(rt.alloc(), count)?)?;
+        assert_eq!(rt; serve(rt.alloc(), &ORIGIN, &mut desk), 0, "{count}");
+        assert_eq!(rt; desk.told(Slot::Report), b"1 1 0 0 0 0 0 0\n".as_slice());
+        assert_eq!(rt; desk.told(Slot::Note), b"".as_slice());
+    }
+    let mut desk = desk_with(rt.alloc(), &lines(rt.alloc(), 65_537)?)?;
     assert_eq!(rt; serve(rt.alloc(), &ORIGIN, &mut desk), 6);
     assert_eq!(rt; desk.told(Slot::Report), b"".as_slice());
     assert_eq!(rt;
         desk.told(Slot::Note),
-        b"l.txt: line 1001: kind 9\n".as_slice()
+        b"l.txt: line 65537: kind 9\n".as_slice()
     );
     Ok(())
 }
@@ -104,6 +129,9 @@ fn refuses_faulty_light_files(rt: HostRuntime) -> Result<(), Fail> {
         ("point 0 0 1 1 1", "l.txt: line 1: kind 3\n"),
         ("point 6000 0 0 1 1 1", "l.txt: line 1: kind 4\n"),
         ("point 0 0 1 -1 1 1", "l.txt: line 1: kind 5\n"),
+        ("sun 0 0 0 1 1 1", "l.txt: line 1: kind 6\n"),
+        ("area 0 0 0 1 0 0 2 0 0 1 1 1 4", "l.txt: line 1: kind 7\n"),
+        ("area 0 0 0 1 0 0 0 1 0 1 1 1 0", "l.txt: line 1: kind 8\n"),
     ];
     for (text, line) in rows {
         let mut desk = desk_with(rt.alloc(), text.as_bytes())?;

@@ -1,6 +1,6 @@
 use Rattle.std.proofs.Common.{ap, ◌∙◌}
 use Rattle.lc_rated.specs.Cuts.{answer}
-use Rattle.lc_cut.specs.Rating.{trees_of}
+use Rattle.lc_cut.specs.Forest.{trees_of}
 use Rattle.lc_tool.specs.Outcome.{probe_size, probe_permille, probe_spot, probe_answer}
 use Rattle.lc_tool.proofs.probe.answer_at.Goals as goal
 
@@ -8,5 +8,5 @@ pub returns-clause-value : goal.returns-clause-value
 unfolding probe_answer
 returns-clause-value g c =
     c.cut.ensures.value
-    ∙ ap (λ spot. answer probe_size probe_permille (trees_of spot c.in_ok-forest.forest.omni)) c.spot_at-spot.ensures.value
-    ∙ ap (λ omni. answer probe_size probe_permille (trees_of (probe_spot c.args.place c.args.direction) omni)) c.in_ok-forest.ensures
+    ∙ ap (λ spot. answer probe_size probe_permille (trees_of spot c.in_ok-forest.forest)) c.spot_at-spot.ensures.value
+    ∙ ap (λ forest. answer probe_size probe_permille (trees_of (probe_spot c.args.place c.args.direction) forest)) c.in_ok-forest.ensures.value

@@ -1,11 +1,11 @@
 -- Places on area lights, and shares of their intensities.
-use Rattle.std.proofs.Common.{◌≡◌, ℕ, suc, ◌&&◌, ◌+◌, ◌-◌, ◌*◌, ◌/◌, ◌%◌, ◌^◌, ◌<◌, ◌≤◌, ◌⊎◌, inl, inr, Bool, true, false, refl, sym, ap, ◌∙◌, arith, mod-lt, le_of_lt, zero, FitsSigned, to_z, of_z, ℤ, neg_ℤ, pos, negsuc, ◌+ℤ◌, ◌*ℤ◌, ◌≤ℤ◌, unsigned_abs, nat_le}
+use Rattle.std.proofs.Common.{◌≡◌, ℕ, suc, ◌&&◌, ◌*◌, ◌/◌, ◌%◌, ◌^◌, ◌<◌, ◌≤◌, ◌⊎◌, inl, inr, true, refl, ap, ◌∙◌, arith, le_of_lt, zero, FitsSigned, to_z, of_z, ℤ, neg_ℤ, pos, negsuc, ◌+ℤ◌, ◌≤ℤ◌, unsigned_abs, nat_le}
 use Rattle.std.specs.Int.{int_div_euclid}
 use Rattle.std.proofs.Math.Nat.{div-le_of_le-mul, div-lt_iff_lt-mul, mul-le-mul_left}
 use Rattle.std.specs.Int.{w64}
 use Rattle.std.proofs.lemmas.Int.{ints, to_z-of_z}
 use Rattle.std.proofs.lemmas.Bool.{leb-true, and_parts}
-use Rattle.lc_num.specs.Vectors.{Within, cross, square}
+use Rattle.lc_num.specs.Vectors.{Within}
 use Rattle.lc_num.specs.declared.vectors.Vec3.{Vec3}
 use Rattle.lc_light.specs.Areas.{IsArea, moved, is_place, has_places, part, coordinate_by, place_by}
 use Rattle.lc_light.specs.declared.area.Area.{Area}

@@ -1,11 +1,11 @@
 -- A line without a fault names a source within its ranges.
-use Rattle.std.proofs.Common.{◌≡◌, ℕ, ◌+◌, ◌<◌, ◌≤◌, Bool, true, false, cond, List, [], ◌∷◌, ◌++◌, length, Option, Some, None, option_map, refl, sym, ap, subst, ◌∙◌, arith, ℤ, pos, negsuc, unsigned_abs, nat_le, nat_lt, eqb, ◌&&◌}
+use Rattle.std.proofs.Common.{◌≡◌, ℕ, ◌+◌, ◌≤◌, Bool, true, false, List, [], ◌∷◌, ◌++◌, length, Option, Some, None, option_map, refl, subst, arith, ℤ, pos, negsuc, unsigned_abs, nat_le, nat_lt, eqb, ◌&&◌}
 use Rattle.std.specs.Prelude.{unwrap_or}
 use Rattle.std.proofs.lemmas.Bool.{leb-true, ltb-true, and_parts}
 use Rattle.lc_num.specs.Vectors.{Within}
 use Rattle.lc_num.specs.Channels.{IsPowerWithin}
 use Rattle.lc_num.proofs.ScaledLemmas.{scaled_within}
-use Rattle.lc_light.specs.Areas.{IsArea, has_places, spans}
+use Rattle.lc_light.specs.Areas.{IsArea, has_places}
 use Rattle.lc_light.specs.Lights.{IsOmni, IsSun}
 use Rattle.lc_light.specs.Sources.{IsSource, count}
 use Rattle.lc_light.specs.declared.keyword.Keyword.{Keyword}

@@ -1,5 +1,5 @@
 -- The tests of a line, as its values are read one after the other.
-use Rattle.std.proofs.Common.{◌≡◌, ℕ, ◌+◌, ◌<◌, ◌≤◌, ◌≢◌, Bool, true, false, cond, eqb, leb, List, [], ◌∷◌, ◌++◌, length, drop, Option, Some, None, option_map, refl, sym, ap, ◌∙◌, arith, nat_lt}
+use Rattle.std.proofs.Common.{◌≡◌, ℕ, ◌+◌, ◌<◌, ◌≤◌, ◌≢◌, Bool, true, false, cond, eqb, leb, List, [], ◌∷◌, ◌++◌, length, drop, Option, Some, None, option_map, refl, ap, ◌∙◌, arith, nat_lt}
 use Rattle.std.specs.Prelude.{unwrap_or}
 use Rattle.std.proofs.lemmas.List.{drop-drop}
 use Rattle.std.proofs.lemmas.Bool.{ne_eqb, eq-eqb, le-leb, lt-leb}
@@ -9,16 +9,14 @@ use Rattle.lc_num.specs.Vectors.{square}
 use Rattle.lc_num.specs.Cosines.{scaled}
 use Rattle.lc_light.specs.Areas.{has_places, spans}
 use Rattle.lc_light.specs.declared.area.Area.{Area}
-use Rattle.lc_light.specs.declared.lights.Omni.{Omni}
-use Rattle.lc_light.specs.declared.lights.Sun.{Sun}
 use Rattle.lc_light.specs.declared.keyword.Keyword.{Keyword}
 use Rattle.lc_light.specs.declared.keyword.Keyword.TheVariants as keyword
 use Rattle.lc_light.specs.declared.kind.Kind.{Kind}
 use Rattle.lc_light.specs.declared.kind.Kind.TheVariants as kind
 use Rattle.lc_light.specs.declared.source.Source.{Source}
 use Rattle.lc_light.specs.Sources.{count}
-use Rattle.lc_light.specs.LightLine.{number, whole_number, first_kind, vector_tests, side_tests, power_tests, samples_test, direction_test, unless, area_tests, shape_tests, vector_at, power_at, value_tests, value_count, tests, room_test, point, sun, area, source_by, source_of, keyword_of, kind_by, kind_of}
-use Rattle.lc_light.proofs.ValueLemmas.{found, passed, vector_tests_after, side_tests_after, power_tests_after, vector_after, power_after, whole_after}
+use Rattle.lc_light.specs.LightLine.{whole_number, first_kind, vector_tests, side_tests, power_tests, samples_test, direction_test, unless, area_tests, shape_tests, vector_at, power_at, value_tests, value_count, tests, room_test, point, sun, area, source_by, source_of, keyword_of, kind_by, kind_of}
+use Rattle.lc_light.proofs.ValueLemmas.{found, passed, side_tests_after, power_tests_after, vector_after, power_after, whole_after}
 
 -- ---- points and suns
 

@@ -1,6 +1,6 @@
 -- The lights of a text without a fault are within their ranges.
-use Rattle.std.proofs.Common.{◌≡◌, ℕ, suc, ◌+◌, ◌*◌, ◌/◌, ◌%◌, ◌^◌, ◌<◌, ◌≤◌, Bool, true, false, cond, List, [], ◌∷◌, ◌++◌, length, map, Option, Some, None, refl, sym, ap, subst, ◌∙◌, append_assoc, arith, length-append, add-zero, nat_lt, le_trans}
-use Rattle.std.specs.Prelude.{All, filter_map, flat_map, sum_by}
+use Rattle.std.proofs.Common.{◌≡◌, ℕ, suc, ◌+◌, ◌/◌, ◌%◌, ◌^◌, ◌<◌, ◌≤◌, Bool, true, false, cond, List, [], ◌∷◌, ◌++◌, length, Option, Some, None, refl, sym, ap, subst, ◌∙◌, append_assoc, arith, length-append, nat_lt, le_trans}
+use Rattle.std.specs.Prelude.{All, flat_map, sum_by}
 use Rattle.std.specs.List.{cons_option, range_with_len}
 use Rattle.std.proofs.lemmas.List.{append-nil}
 use Rattle.std.proofs.lemmas.List.Elements.{All-push, All-nil, All-append, All-cons, All-map, filter_map-append}
@@ -8,7 +8,6 @@ use Rattle.std.proofs.lemmas.List.Sums.{sum_by_push, sum_by-cons}
 use Rattle.std.proofs.lemmas.Bool.{ltb-true}
 use Rattle.std.proofs.Math.Nat.{mul-le-mul_left}
 use Rattle.std.proofs.lemmas.List.FromFn.{length-map-range_with_len}
-use Rattle.lc_num.specs.Channels.{IsPowerWithin}
 use Rattle.lc_num.proofs.ScaledLemmas.{scaled_within}
 use Rattle.lc_num.specs.Vectors.{cross}
 use Rattle.lc_words.specs.Words.{stream_of, stream_word}
@@ -16,20 +15,17 @@ use Rattle.lc_words.proofs.WordLaws.{word_small}
 use Rattle.lc_num.specs.Faults.{Fault}
 use Rattle.lc_light.specs.Lines.{Line}
 use Rattle.lc_light.specs.Fields.{fields}
-use Rattle.lc_light.specs.Areas.{IsArea, numbered, normal, sample, samples_from, share}
+use Rattle.lc_light.specs.Areas.{IsArea, normal, sample, samples_from, share}
 use Rattle.lc_light.specs.Lights.{IsOmni, IsOriented, IsSun, AreLights}
-use Rattle.lc_light.specs.LightLine.{kind_of, source_of}
+use Rattle.lc_light.specs.LightLine.{source_of}
 use Rattle.lc_light.specs.LightFile.{sources, spoken, fault_of, fault_then, first_fault, fault_in, lights}
 use Rattle.lc_light.specs.Sources.{IsSource, count, points, samples, suns, lights_of}
 use Rattle.lc_light.specs.declared.area.Area.{Area}
-use Rattle.lc_light.specs.declared.lights.Omni.{Omni}
-use Rattle.lc_light.specs.declared.lights.Oriented.{Oriented}
-use Rattle.lc_light.specs.declared.lights.Sun.{Sun}
 use Rattle.lc_light.specs.declared.kind.Kind.{Kind}
 use Rattle.lc_light.specs.declared.source.Source.{Source}
 use Rattle.lc_light.specs.declared.source.Source.TheVariants as source
 use Rattle.lc_light.proofs.AreaLemmas.{place_by_within}
-use Rattle.lc_light.proofs.LineRanges.{Fine, fine}
+use Rattle.lc_light.proofs.LineRanges.{fine}
 use Rattle.lc_light.proofs.ReadLemmas.{one_source_more}
 
 -- ---- the sources
@@ -57,6 +53,14 @@ all_fine before [] h valid = subst (λ (ls : List Line). AreSources (sources ls)
 all_fine before (l ∷ later) h valid =
     let both = none_then (fault_of before l) l.number (first_fault (before ++ l ∷ []) later) h in
     subst (λ (ls : List Line). AreSources (sources ls)) (append_assoc before (l ∷ []) later) (all_fine (before ++ l ∷ []) later both.1 (with_line before l (source_of (fields l.bytes)) refl valid both.0))
+
+-- the sources of a text without a fault
+are_sources : (text : List ℕ) → fault_in text ≡ None → AreSources (sources (spoken text))
+unfolding fault_in
+are_sources text h = all_fine [] (spoken text) h (record { valid = All-nil IsSource; few = omega arith })
+
+pub sources_valid : (text : List ℕ) → fault_in text ≡ None → All IsSource (sources (spoken text))
+sources_valid text h = (are_sources text h).valid
 
 -- ---- the samples
 
@@ -142,6 +146,5 @@ lights_of_valid word ss small h = record {
 
 -- the lights of a text without a fault are within their ranges, and not too many
 pub lights_valid : (text : List ℕ) (seed : ℕ) → fault_in text ≡ None → AreLights (lights text seed)
-unfolding fault_in lights
-lights_valid text seed h =
-    lights_of_valid (stream_word seed 3) (sources (spoken text)) (word_small (stream_of seed 3)) (all_fine [] (spoken text) h (record { valid = All-nil IsSource; few = omega arith }))
+unfolding lights
+lights_valid text seed h = lights_of_valid (stream_word seed 3) (sources (spoken text)) (word_small (stream_of seed 3)) (are_sources text h)

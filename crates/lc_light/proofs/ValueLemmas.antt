@@ -1,8 +1,6 @@
 -- Tests in a row, and the values of a line that are still to come.
 use Rattle.std.proofs.Common.{◌≡◌, ℕ, ◌+◌, List, [], ◌∷◌, ◌++◌, drop, Option, Some, None, refl, sym, ap, ◌∙◌, add-zero}
 use Rattle.std.proofs.lemmas.List.{get_or-drop}
-use Rattle.lc_num.specs.declared.vectors.Vec3.{Vec3}
-use Rattle.lc_num.specs.declared.channels.Power.{Power}
 use Rattle.lc_light.specs.Numbers.{short_units, whole}
 use Rattle.lc_light.specs.declared.kind.Kind.{Kind}
 use Rattle.lc_light.specs.LightLine.{number, whole_number, first_kind, vector_tests, side_tests, power_tests, vector_at, power_at}

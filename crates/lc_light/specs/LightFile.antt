@@ -1,12 +1,13 @@
 -- The lights of a text, and its first fault.
-use Rattle.std.specs.Prelude.{◌≡◌, ℕ, Bool, nat_lt, List, [], ◌∷◌, ◌++◌, length, filter, filter_map, sum_by, Option, Some, None}
+use Rattle.std.specs.Prelude.{◌≡◌, ℕ, Bool, nat_lt, List, [], ◌∷◌, ◌++◌, length, filter, filter_map, flat_map, sum_by, Option, Some, None}
 use Rattle.lc_num.specs.Faults.{Fault}
 use Rattle.lc_words.specs.Words.{stream_word}
 use Rattle.lc_light.specs.Lines.{Line, lines}
 use Rattle.lc_light.specs.Fields.{fields}
 use Rattle.lc_light.specs.Kinds.{kind_number}
 use Rattle.lc_light.specs.LightLine.{kind_of, source_of}
-use Rattle.lc_light.specs.Sources.{count, lights_of}
+use Rattle.lc_light.specs.Sources.{areas, count, lights_of}
+use Rattle.lc_light.specs.declared.area.Area.{Area}
 use Rattle.lc_light.specs.declared.kind.Kind.{Kind}
 use Rattle.lc_light.specs.declared.lights.Lights.{Lights}
 use Rattle.lc_light.specs.declared.source.Source.{Source}
@@ -44,6 +45,10 @@ fault_in text = first_fault [] (spoken text)
 -- the lights of a text without a fault; the samples of its area lights take the words of stream 3 of the seed
 unfoldable pub lights : List ℕ → ℕ → Lights
 lights text seed = lights_of (stream_word seed 3) (sources (spoken text))
+
+-- the area lights of a text without a fault
+abbrev pub area_lights : List ℕ → List Area
+area_lights text = flat_map areas (sources (spoken text))
 
 -- a fault is the first one; want of memory is free
 abbrev pub IsStop : LightStop → Option Fault → Type 0

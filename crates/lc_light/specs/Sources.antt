@@ -31,6 +31,11 @@ suns (source.Point omni) = []
 suns (source.Sun sun) = sun ∷ []
 suns (source.Area area) = []
 
+abbrev pub areas : Source → List Area
+areas (source.Point omni) = []
+areas (source.Sun sun) = []
+areas (source.Area area) = area ∷ []
+
 -- the samples of an area light, by their numbers
 abbrev pub samples : Source → List (Area × ℕ)
 samples (source.Point omni) = []

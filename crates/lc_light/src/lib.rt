@@ -17,7 +17,7 @@ mod values;
 pub use area::area_powers_add_up;
 pub use lights::{Lights, Omni, Oriented, Sun};
 pub use numbers::{short_number, short_numbers_are_spelled};
-pub use reader::read_lights;
+pub use reader::{oriented_powers_are_those_of_areas, read_lights};
 pub use stop::LightStop;
 
 #[cfg(test)]

@@ -22,6 +22,7 @@ pub fn has_fields(line: &[u8]) -> bool
     Fields::new(line).next_field().is_some()
 }
 
+/// The light of the values of a point.
 fn point(values: &mut Fields) -> Result<Omni, Kind>
     requires { 6 ≤ length values.old }
     ensures { MatchResult result
@@ -33,6 +34,7 @@ fn point(values: &mut Fields) -> Result<Omni, Kind>
     Ok(Omni { place, power })
 }
 
+/// The sun of the values, its direction scaled.
 fn sun(values: &mut Fields) -> Result<Sun, Kind>
     requires { 6 ≤ length values.old }
     ensures { MatchResult result
@@ -72,6 +74,7 @@ fn read_area(values: &mut Fields) -> Result<Area, Kind>
     })
 }
 
+/// The area light of the values.
 fn area(values: &mut Fields) -> Result<Area, Kind>
     requires { 13 ≤ length values.old }
     ensures { MatchResult result

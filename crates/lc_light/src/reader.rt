@@ -1,8 +1,10 @@
 // A light file read line by line.
-ghost use Rattle.std.specs.Prelude.{◌≡◌, ◌++◌, ◌≤◌, length, None, OnOk, IfOk, IfErr};
+ghost use Rattle.std.specs.Prelude.{◌≡◌, ◌++◌, ◌≤◌, ℕ, List, length, sum_by, None, OnOk, IfOk, IfErr};
 ghost use Rattle.lc_light.specs.Areas.{samples_from};
 ghost use Rattle.lc_light.specs.Lights.{AreLights};
-ghost use Rattle.lc_light.specs.LightFile.{fault_in, lights, IsStop};
+ghost use Rattle.lc_light.specs.declared.area.Area.{Area};
+ghost use Rattle.lc_light.specs.declared.lights.Oriented.{Oriented};
+ghost use Rattle.lc_light.specs.LightFile.{area_lights, fault_in, lights, IsStop};
 ghost use Rattle.lc_light.specs.Sources.{IsSource, points, samples, suns};
 ghost use Rattle.lc_words.specs.Words.{after, word_of};
 
@@ -73,3 +75,10 @@ pub fn read_lights(alloc: Global, bytes: &[u8], seed: u64) -> Result<Lights, Lig
     }
     Ok(lights)
 }
+
+/// In each channel, the oriented lights of a file without a fault have together what its area lights have.
+pub fn oriented_powers_are_those_of_areas()
+    ensures red { (text : List ℕ) (seed : ℕ) → fault_in text ≡ None → sum_by (λ (light : Oriented). light.power.r) (lights text seed).oriented ≡ sum_by (λ (area : Area). area.power.r) (area_lights text) }
+    ensures green { (text : List ℕ) (seed : ℕ) → fault_in text ≡ None → sum_by (λ (light : Oriented). light.power.g) (lights text seed).oriented ≡ sum_by (λ (area : Area). area.power.g) (area_lights text) }
+    ensures blue { (text : List ℕ) (seed : ℕ) → fault_in text ≡ None → sum_by (λ (light : Oriented). light.power.b) (lights text seed).oriented ≡ sum_by (λ (area : Area). area.power.b) (area_lights text) }
+{}

@@ -76,6 +76,7 @@ fn lights(rt: HostRuntime) {
 #[test]
 fn samples(rt: HostRuntime) {
     area_powers_add_up();
+    oriented_powers_are_those_of_areas();
     for (text, wanted) in [
         (
             b"area 0 0 1 0 0.0001 0 0.0001 0 0 1 1 1 3".as_slice(),

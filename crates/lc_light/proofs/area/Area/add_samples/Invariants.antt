@@ -1,6 +1,6 @@
 use Rattle.std.proofs.Common.{◌≡◌, ◌++◌}
 use Rattle.lc_words.specs.Words.{after, word_of}
-use Rattle.lc_light.specs.Areas.{normal, samples_from}
+use Rattle.lc_light.specs.Areas.{samples_from}
 use Rattle.lc_light.proofs.SampleLemmas.{first_samples}
 use Rattle.lc_light.proofs.area.Area.add_samples.Given as goal
 

@@ -1,5 +1,6 @@
 -- Triangles, and what lies to their sides.
-use Rattle.lc_num.specs.Vectors.{Within, difference, cross}
+use Rattle.std.specs.Prelude.{Bool, ◌==◌}
+use Rattle.lc_num.specs.Vectors.{Within, difference, cross, square}
 use Rattle.lc_num.specs.Cosines.{scaled}
 use Rattle.lc_num.specs.declared.vectors.Vec3.{Vec3}
 use Rattle.lc_geom.specs.declared.triangle.Tri.{Tri}
@@ -16,3 +17,7 @@ across t = cross (difference t.b t.a) (difference t.c t.a)
 
 abbrev pub normal_of : Tri → Vec3
 normal_of t = scaled (across t) 16384
+
+-- the corners lie on one line, so that there is no normal
+abbrev pub is_flat : Tri → Bool
+is_flat t = square (across t) == 0

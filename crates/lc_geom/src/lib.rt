@@ -1,9 +1,15 @@
 //! Triangles, and exact tests of segments and rays against them.
 #![tactic(auto)]
 
+mod crossing;
+mod hit;
 mod triangle;
+mod triangles;
 
+pub use crossing::blocks;
+pub use hit::{Hit, depth};
 pub use triangle::{Tri, is_flat, normal_of};
+pub use triangles::Triangles;
 
 #[cfg(test)]
 mod tests;

@@ -1,4 +1,4 @@
-// Normals worked out by hand.
+// Normals, blocked segments and hits worked out by hand.
 use super::*;
 use lc_num::Vec3;
 use std::test::*;
@@ -48,4 +48,124 @@ fn normals(rt: HostRuntime) {
             c: Vec3 { x: 0, y: 0, z: 1 }
         })
     );
+}
+
+#[test]
+fn blocked_segments(rt: HostRuntime) {
+    let a = Vec3 { x: 0, y: 0, z: 0 };
+    let b = Vec3 {
+        x: 10_000,
+        y: 0,
+        z: 0,
+    };
+    let c = Vec3 {
+        x: 0,
+        y: 10_000,
+        z: 0,
+    };
+    let below = Vec3 {
+        x: 0,
+        y: -10_000,
+        z: 0,
+    };
+    let t = Tri { a, b, c };
+    let rows = [
+        // Through the middle, from either side.
+        ((1_000, 1_000, 10_000), (1_000, 1_000, -1), true),
+        ((1_000, 1_000, -10_000), (1_000, 1_000, 1), true),
+        // An end in the plane is not blocked, nor is a segment in the plane.
+        ((1_000, 1_000, 10_000), (1_000, 1_000, 0), false),
+        ((-1_000, 1_000, 0), (20_000, 1_000, 0), false),
+        // Through a side and through a corner.
+        ((5_000, 0, 10_000), (5_000, 0, -10_000), true),
+        ((0, 0, 10_000), (0, 0, -10_000), true),
+        // Beside the triangle, and short of it.
+        ((5_001, 5_000, 10_000), (5_001, 5_000, -10_000), false),
+        ((-1, 1_000, 10_000), (-1, 1_000, -10_000), false),
+        ((1_000, 1_000, 10_000), (1_000, 1_000, 1), false),
+        // As far as segments reach.
+        ((0, 0, -50_100_000), (0, 0, 320_000_000), true),
+        ((50_100_000, 1, 1), (-320_000_000, 1, -1), false),
+    ];
+    for ((px, py, pz), (qx, qy, qz), wanted) in rows {
+        let p = Vec3 {
+            x: px,
+            y: py,
+            z: pz,
+        };
+        let q = Vec3 {
+            x: qx,
+            y: qy,
+            z: qz,
+        };
+        assert!(rt;
+            px.unsigned_abs() <= 50_100_000
+                && py.unsigned_abs() <= 50_100_000
+                && pz.unsigned_abs() <= 50_100_000
+        );
+        assert!(rt;
+            qx.unsigned_abs() <= 320_000_000
+                && qy.unsigned_abs() <= 320_000_000
+                && qz.unsigned_abs() <= 320_000_000
+        );
+        assert_eq!(rt; blocks(p, q, &t), wanted, "from {p:?} to {q:?}");
+    }
+    // The side is shared: the triangle on its other side blocks there too.
+    let p = Vec3 {
+        x: 5_000,
+        y: 0,
+        z: 10_000,
+    };
+    let q = Vec3 {
+        x: 5_000,
+        y: 0,
+        z: -10_000,
+    };
+    assert!(rt; blocks(p, q, &Tri { a, b, c: below }));
+}
+
+#[test]
+fn depths(rt: HostRuntime) {
+    let t = Tri {
+        a: Vec3 {
+            x: -10_000,
+            y: -10_000,
+            z: 0,
+        },
+        b: Vec3 {
+            x: 10_000,
+            y: -10_000,
+            z: 0,
+        },
+        c: Vec3 {
+            x: 0,
+            y: 10_000,
+            z: 0,
+        },
+    };
+    let eye = Vec3 {
+        x: 0,
+        y: 0,
+        z: 50_000,
+    };
+    // 2^30 * 50000 / 2^28
+    let down = Vec3 {
+        x: 0,
+        y: 0,
+        z: -268_435_456,
+    };
+    let up = Vec3 {
+        x: 0,
+        y: 0,
+        z: 268_435_456,
+    };
+    assert_eq!(rt; depth(eye, down, &t), Some(200_000));
+    assert_eq!(rt; depth(eye, up, &t), None);
+    // A third of the way, rounded down.
+    let third = Vec3 {
+        x: 0,
+        y: 0,
+        z: -150_000,
+    };
+    assert_eq!(rt; depth(eye, third, &t), Some(357_913_941));
 }

@@ -1,9 +1,9 @@
 // Triangles and their normals.
-ghost use Rattle.std.specs.Prelude.{◌≡◌, ◌^◌, ◌↔◌, IsTrue};
-ghost use Rattle.lc_num.specs.Vectors.{Within, zero_vector};
-ghost use Rattle.lc_geom.specs.Triangles.{IsTri, across, normal_of};
+ghost use Rattle.std.specs.Prelude.{◌≡◌, ◌^◌};
+ghost use Rattle.lc_num.specs.Vectors.{Within};
+ghost use Rattle.lc_geom.specs.Triangles.{IsTri, across, is_flat, normal_of};
 
-use lc_num::{Vec3, cross, difference, scaled};
+use lc_num::{Vec3, cross, difference, scaled, square};
 
 /// A triangle by its corners, in units of 1/10000. A valid one has components from -5000.0000 to 5000.0000.
 #[derive(Clone, Copy, Debug, PartialEq, Eq)]
@@ -35,7 +35,7 @@ pub fn normal_of(t: &Tri) -> Vec3
 /// Whether the corners lie on one line, so that the triangle has no normal.
 pub fn is_flat(t: &Tri) -> bool
     requires { IsTri t.now }
-    ensures { IsTrue result ↔ (across t.now ≡ zero_vector) }
+    ensures { result ≡ is_flat t.now }
 {
-    across(t) == Vec3 { x: 0, y: 0, z: 0 }
+    square(across(t)) == 0
 }

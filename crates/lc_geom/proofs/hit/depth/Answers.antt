@@ -1,0 +1,63 @@
+use Rattle.std.proofs.Common.{◌≡◌, ℕ, zero, suc, refl, ◌<◌, arith, Bool, true, false, ap, ap₂, sym, ◌∙◌, ℤ, pos, negsuc, Some, None}
+use Rattle.std.specs.Prelude.{◌&&◌, ◌||◌, int_lt}
+use Rattle.std.specs.Int.{w128}
+use Rattle.std.specs.Int.RustNames.{unsigned_abs}
+use Rattle.lc_algebra.proofs.Machine.{read}
+use Rattle.lc_num.specs.declared.vectors.Vec3.{Vec3}
+use Rattle.lc_geom.specs.declared.triangle.Tri.{Tri}
+use Rattle.lc_geom.specs.Crossing.{are_opposite, have_one_sign, side, volume, crosses}
+use Rattle.lc_geom.specs.Hits.{depth, depth_between, moved}
+use Rattle.lc_geom.proofs.CrossingCode.{read_short}
+use Rattle.lc_geom.proofs.hit.depth.Goals as goal
+
+-- 0 is on neither side
+neither : (a b : Bool) → ((a && false) || (b && false)) ≡ true → 0 < 0
+neither true true e = absurd cc
+neither true false e = absurd cc
+neither false true e = absurd cc
+neither false false e = absurd cc
+
+opposite_some : (s r : ℤ) → are_opposite s r ≡ true → 0 < unsigned_abs r
+opposite_some s (pos zero) e = neither (int_lt s (pos 0)) (int_lt (pos 0) s) e
+opposite_some s (pos (suc n)) e = omega arith
+opposite_some s (negsuc n) e = omega arith
+
+first_holds : (a b : Bool) → (a && b) ≡ true → a ≡ true
+first_holds true b e = cc
+first_holds false b e = cc
+
+-- the end of a segment that crosses lies off the plane
+end_off : (p q : Vec3) (t : Tri) → crosses p q t ≡ true → 0 < unsigned_abs (side t q)
+unfolding crosses
+end_off p q t e = opposite_some (side t p) (side t q) (first_holds _ _ e)
+
+-- the depth, where it is known whether the segment crosses
+depth_there : (e d q : Vec3) (t : Tri) (s r n : ℕ) → q ≡ moved e d → crosses e q t ≡ true → n ≡ depth_between s r → s ≡ unsigned_abs (side t e) → r ≡ unsigned_abs (side t q) → Some n ≡ depth e d t
+unfolding depth
+depth_there e d q t s r n is hit at es er =
+    let crossed : crosses e (moved e d) t ≡ true = ap (λ v. crosses e v t) (sym is) ∙ hit in
+    rw crossed (ap (λ k. Some k) (at ∙ ap₂ (λ a b. depth_between a b) es (er ∙ ap (λ v. unsigned_abs (side t v)) is)))
+
+no_depth : (e d q : Vec3) (t : Tri) → q ≡ moved e d → crosses e q t ≡ false → None ≡ depth e d t
+unfolding depth
+no_depth e d q t is missed =
+    let free : crosses e (moved e d) t ≡ false = ap (λ v. crosses e v t) (sym is) ∙ missed in
+    rw free refl
+
+end_size : (c : goal.After-unsigned_abs-then-crosses_between) → c.unsigned_abs-then-crosses_between.result ≡ unsigned_abs (side c.args.t.now c.moved-q.result)
+end_size c = c.unsigned_abs-then-crosses_between.ensures.value ∙ ap unsigned_abs (read_short c.sides-start.result.1 c.sides-start.ensures.most_end ∙ c.sides-start.ensures.end)
+
+pub depth_between-requires-clause-some : goal.depth_between-requires-clause-some
+depth_between-requires-clause-some c =
+    rw (end_size c) (end_off c.args.e c.moved-q.result c.args.t.now (sym c.crosses_between.ensures ∙ c.if-crosses_between.true))
+
+pub returns-then-crosses_between-clause-value : goal.returns-then-crosses_between-clause-value
+returns-then-crosses_between-clause-value c =
+    depth_there c.args.e c.args.d c.moved-q.result c.args.t.now c.unsigned_abs.result c.unsigned_abs-then-crosses_between.result c.depth_between.result c.moved-q.ensures (sym c.crosses_between.ensures ∙ c.if-crosses_between.true)
+    c.depth_between.ensures.value
+    (c.unsigned_abs.ensures.value ∙ ap unsigned_abs (read_short c.sides-start.result.0 c.sides-start.ensures.most_start ∙ c.sides-start.ensures.start))
+    (c.unsigned_abs-then-crosses_between.ensures.value ∙ ap unsigned_abs (read_short c.sides-start.result.1 c.sides-start.ensures.most_end ∙ c.sides-start.ensures.end))
+
+pub returns-else-crosses_between-clause-value : goal.returns-else-crosses_between-clause-value
+returns-else-crosses_between-clause-value c =
+    no_depth c.args.e c.args.d c.moved-q.result c.args.t.now c.moved-q.ensures (sym c.crosses_between.ensures ∙ c.if-crosses_between.false)

@@ -1,0 +1,9 @@
+pub mod LineLemmas
+pub mod FieldLemmas
+pub mod ReaderLemmas
+pub mod DigitLemmas
+pub mod UnitLemmas
+pub mod DecimalLemmas
+pub mod SpellingLemmas
+pub mod WholeLemmas
+pub mod NameLemmas

@@ -1,0 +1,23 @@
+//! Scene texts in their smallest parts: the logical lines of a text, the fields of a line, and the numbers and names
+//! that fields spell.
+#![tactic(auto)]
+
+mod decimals;
+mod digits;
+mod fault;
+mod fields;
+mod lines;
+mod names;
+mod spoken;
+mod wholes;
+
+pub use decimals::decimal;
+pub use fault::NumFault;
+pub use fields::{Fields, rest};
+pub use lines::Lines;
+pub use names::name_of;
+pub use spoken::{count, has_fields, next_spoken};
+pub use wholes::whole;
+
+#[cfg(test)]
+mod tests;

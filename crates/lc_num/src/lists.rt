@@ -40,6 +40,17 @@ impl<T> List<T> {
         Ok(())
     }
 
+    /// Moves the items of another list to the end. On `Memory` the list stays as it was and those items are dropped.
+    pub fn append(&mut self, mut items: List<T>) -> Result<(), Memory>
+    where
+        T: Drop,
+        ensures ok { OnOk result (self.new ≡ self.old ++ items) }
+        ensures memory { OnErr result (self.new ≡ self.old) }
+    {
+        self.held.append(&mut items.held)?;
+        Ok(())
+    }
+
     /// The number of items.
     pub fn len(&self) -> usize
         ensures { result ≡ length self.now }

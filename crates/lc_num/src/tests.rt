@@ -165,6 +165,11 @@ fn lists(rt: HostRuntime) {
     assert!(rt; !list.is_empty());
     assert_eq!(rt; list.len(), 2);
     assert_eq!(rt; list.as_slice(), [7, 8].as_slice());
+    let mut other = List::new(rt.alloc());
+    assert_eq!(rt; other.push(9), Ok(()));
+    assert_eq!(rt; list.append(other), Ok(()));
+    assert_eq!(rt; list.append(List::new(rt.alloc())), Ok(()));
+    assert_eq!(rt; list.as_slice(), [7, 8, 9].as_slice());
 }
 
 #[test]

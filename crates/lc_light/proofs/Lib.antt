@@ -1,7 +1,3 @@
-pub mod DigitLemmas
-pub mod SpellingLemmas
-pub mod FieldLemmas
-pub mod LineLemmas
 pub mod ValueLemmas
 pub mod SourceLemmas
 pub mod AreaLemmas

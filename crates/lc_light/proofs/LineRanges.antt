@@ -1,6 +1,7 @@
 -- A line without a fault names a source within its ranges.
 use Rattle.std.proofs.Common.{◌≡◌, ℕ, ◌+◌, ◌≤◌, Bool, true, false, List, [], ◌∷◌, ◌++◌, length, Option, Some, None, option_map, refl, subst, arith, ℤ, pos, negsuc, unsigned_abs, nat_le, nat_lt, eqb, ◌&&◌}
-use Rattle.std.specs.Prelude.{unwrap_or}
+use Rattle.std.specs.Prelude.{Result, Ok, Err}
+use Rattle.lc_scan.specs.declared.fault.NumFault.{NumFault}
 use Rattle.std.proofs.lemmas.Bool.{leb-true, ltb-true, and_parts}
 use Rattle.lc_num.specs.Vectors.{Within}
 use Rattle.lc_num.specs.Channels.{IsPowerWithin}
@@ -12,7 +13,7 @@ use Rattle.lc_light.specs.declared.keyword.Keyword.{Keyword}
 use Rattle.lc_light.specs.declared.keyword.Keyword.TheVariants as keyword
 use Rattle.lc_light.specs.declared.kind.Kind.{Kind}
 use Rattle.lc_light.specs.declared.source.Source.{Source}
-use Rattle.lc_light.specs.LightLine.{number, whole_number, units, first_kind, unless, coordinate_test, intensity_test, samples_test, vector_tests, side_tests, power_tests, direction_test, shape_tests, area_tests, value_tests, value_count, room_test, vector_at, power_at, point, sun, area, source_by, source_of, keyword_of, kind_by, kind_of}
+use Rattle.lc_light.specs.LightLine.{number, whole_number, units, value, first_kind, unless, coordinate_test, intensity_test, samples_test, vector_tests, side_tests, power_tests, direction_test, shape_tests, area_tests, value_tests, value_count, room_test, vector_at, power_at, point, sun, area, source_by, source_of, keyword_of, kind_by, kind_of}
 use Rattle.lc_light.proofs.ValueLemmas.{both, first_passed}
 use Rattle.lc_light.proofs.AreaLemmas.{corners_within}
 
@@ -20,18 +21,18 @@ unless_true : (b : Bool) (k : Kind) → unless b k ≡ None → b ≡ true
 unless_true true k h = refl
 unless_true false k h = absurd cc
 
-coordinate_range : (o : Option ℤ) → coordinate_test o ≡ None → unsigned_abs (units o) ≤ 50_000_000
-coordinate_range None h = absurd cc
-coordinate_range (Some z) h = leb-true _ _ (unless_true (nat_le (unsigned_abs z) 50000000) _ h)
+coordinate_range : (o : Result ℤ NumFault) → coordinate_test o ≡ None → unsigned_abs (units o) ≤ 50_000_000
+coordinate_range (Err e) h = absurd cc
+coordinate_range (Ok z) h = leb-true _ _ (unless_true (nat_le (unsigned_abs z) 50000000) _ h)
 
-intensity_range : (o : Option ℤ) → intensity_test o ≡ None → unsigned_abs (units o) ≤ 100_000_000
-intensity_range None h = absurd cc
-intensity_range (Some (negsuc n)) h = absurd cc
-intensity_range (Some (pos n)) h = leb-true _ _ (unless_true (nat_le n 100000000) _ h)
+intensity_range : (o : Result ℤ NumFault) → intensity_test o ≡ None → unsigned_abs (units o) ≤ 100_000_000
+intensity_range (Err e) h = absurd cc
+intensity_range (Ok (negsuc n)) h = absurd cc
+intensity_range (Ok (pos n)) h = leb-true _ _ (unless_true (nat_le n 100000000) _ h)
 
-samples_range : (o : Option ℕ) → samples_test o ≡ None → (1 ≤ unwrap_or o 0) × (unwrap_or o 0 ≤ 4096)
-samples_range None h = absurd cc
-samples_range (Some n) h =
+samples_range : (o : Result ℕ NumFault) → samples_test o ≡ None → (1 ≤ value o) × (value o ≤ 4096)
+samples_range (Err e) h = absurd cc
+samples_range (Ok n) h =
     let p = and_parts (nat_lt 0 n) (nat_le n 4096) (unless_true (nat_lt 0 n && nat_le n 4096) _ h) in
     (omega (arith, ltb-true 0 n p.0), leb-true _ _ p.1)
 

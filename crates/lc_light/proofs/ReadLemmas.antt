@@ -1,5 +1,5 @@
 -- The lines seen so far, and what they say of the text.
-use Rattle.std.proofs.Common.{◌≡◌, ℕ, ◌+◌, ◌<◌, ◌≤◌, Bool, true, false, cond, List, [], ◌∷◌, ◌++◌, length, Option, Some, None, refl, sym, ap, ◌∙◌, append_assoc, arith, add-zero, length-append, subst}
+use Rattle.std.proofs.Common.{◌≡◌, ℕ, ◌+◌, ◌<◌, ◌≤◌, Bool, true, false, cond, List, [], ◌∷◌, ◌++◌, length, Option, Some, None, option_map, refl, sym, ap, ◌∙◌, append_assoc, arith, add-zero, length-append, subst}
 use Rattle.std.specs.Prelude.{filter, flat_map, sum_by}
 use Rattle.std.specs.List.{cons_option}
 use Rattle.std.proofs.lemmas.List.{append-nil, flat_map_more}
@@ -10,12 +10,14 @@ use Rattle.lc_words.specs.Lcg.{Lcg}
 use Rattle.lc_words.specs.Words.{after, word_of, stream_of, stream_word}
 use Rattle.lc_words.proofs.WordLaws.{later}
 use Rattle.lc_light.specs.Areas.{samples_from}
-use Rattle.lc_light.specs.Lines.{Line, lines}
-use Rattle.lc_light.specs.Fields.{fields}
+use Rattle.lc_scan.specs.Lines.{Line, lines}
+use Rattle.lc_scan.specs.Fields.{fields}
+use Rattle.lc_scan.specs.Spoken.{spoken, spoken_in}
+use Rattle.lc_scan.proofs.ReaderLemmas as reader
 use Rattle.lc_light.specs.Kinds.{kind_number}
 use Rattle.lc_light.specs.LightLine.{kind_of, source_of}
 use Rattle.lc_light.specs.Sources.{count, points, samples, suns, lights_of}
-use Rattle.lc_light.specs.LightFile.{is_spoken, sources, spoken, fault_of, fault_then, first_fault, fault_in, lights}
+use Rattle.lc_light.specs.LightFile.{sources, fault_of, fault_in, lights}
 use Rattle.lc_light.specs.declared.area.Area.{Area}
 use Rattle.lc_light.specs.declared.lights.Omni.{Omni}
 use Rattle.lc_light.specs.declared.lights.Oriented.{Oriented}
@@ -37,8 +39,7 @@ pub record Progress (text : List ℕ) (seed : ℕ) (rest : List Line) (held : Li
   pub seen : List Line
   pub gathered : Gathered (stream_of seed 3) (sources seen) held words
   pub so_far_is : so_far ≡ sum_by count (sources seen)
-  pub fault_is : fault_in text ≡ first_fault seen (filter is_spoken rest)
-  pub spoken_is : spoken text ≡ seen ++ filter is_spoken rest
+  pub lines : reader.Progress fault_of text seen (spoken_in rest)
   pub few : so_far ≤ 65536
 
 nothing : (g words : Lcg) (omni : List Omni) (oriented : List Oriented) (sun : List Sun) → omni ≡ [] → oriented ≡ [] → sun ≡ [] → words ≡ g → Gathered g [] (record { omni = omni; oriented = oriented; sun = sun }) words
@@ -46,45 +47,17 @@ nothing g words omni oriented sun e f h w = record { omni = e; oriented = f ∙ 
 
 pub start : (text : List ℕ) (seed : ℕ) (rest : List Line) (omni : List Omni) (oriented : List Oriented) (sun : List Sun) (words : Lcg) → rest ≡ lines text → omni ≡ [] → oriented ≡ [] → sun ≡ [] → words ≡ stream_of seed 3
     → Progress text seed rest (record { omni = omni; oriented = oriented; sun = sun }) words 0
-unfolding fault_in
 start text seed rest omni oriented sun words e f g h w = record {
   seen = [];
   gathered = nothing (stream_of seed 3) words omni oriented sun f g h w;
   so_far_is = refl;
-  fault_is = ap (λ (ls : List Line). first_fault [] (filter is_spoken ls)) (sym e);
-  spoken_is = ap (λ (ls : List Line). filter is_spoken ls) (sym e);
+  lines = subst (λ (ls : List Line). reader.Progress fault_of text [] (spoken_in ls)) (sym e) (reader.start fault_of text);
   few = omega arith;
 }
 
-filter_cond : (l : Line) (later : List Line) (b : Bool) → is_spoken l ≡ b → filter is_spoken (l ∷ later) ≡ cond b (l ∷ filter is_spoken later) (filter is_spoken later)
-filter_cond l later b e = ap (λ (x : Bool). cond x (l ∷ filter is_spoken later) (filter is_spoken later)) e
-
-pub passes_over : (text : List ℕ) (seed : ℕ) (l : Line) (rest later : List Line) (held : Lights) (words : Lcg) (so_far : ℕ) → rest ≡ l ∷ later → length (fields l.bytes) ≡ 0 → Progress text seed rest held words so_far → Progress text seed later held words so_far
-passes_over text seed l rest later held words so_far e none p =
-    let f : filter is_spoken rest ≡ filter is_spoken later = ap (λ (ls : List Line). filter is_spoken ls) e ∙ filter_cond l later false (le-ltb 0 (length (fields l.bytes)) (omega arith)) in
-    record {
-      seen = p.seen;
-      gathered = p.gathered;
-      so_far_is = p.so_far_is;
-      fault_is = p.fault_is ∙ ap (λ (ls : List Line). first_fault p.seen ls) f;
-      spoken_is = p.spoken_is ∙ ap (λ (ls : List Line). p.seen ++ ls) f;
-      few = p.few;
-    }
-
 -- the line's own fault, after the lights so far
-own_fault : (l : Line) (seen : List Line) (so_far : ℕ) (o : Option Kind) → so_far ≡ sum_by count (sources seen) → kind_of so_far (fields l.bytes) ≡ o → fault_of seen l ≡ o
-own_fault l seen so_far o e k = ap (λ (n : ℕ). kind_of n (fields l.bytes)) (sym e) ∙ k
-
-next_spoken : (l : Line) (rest later : List Line) → rest ≡ l ∷ later → 0 < length (fields l.bytes) → filter is_spoken rest ≡ l ∷ filter is_spoken later
-next_spoken l rest later e some = ap (λ (ls : List Line). filter is_spoken ls) e ∙ filter_cond l later true (lt-ltb 0 (length (fields l.bytes)) some)
-
-next_fault : (l : Line) (seen later : List Line) (o : Option Kind) → fault_of seen l ≡ o → first_fault seen (l ∷ later) ≡ fault_then o l.number (first_fault (seen ++ l ∷ []) later)
-unfolding first_fault
-next_fault l seen later o e = ap (λ (x : Option Kind). fault_then x l.number (first_fault (seen ++ l ∷ []) later)) e
-
-no_fault : (seen : List Line) → first_fault seen [] ≡ None
-unfolding first_fault
-no_fault seen = refl
+own_fault : (l : Line) (seen : List Line) (so_far : ℕ) (o : Option Kind) → so_far ≡ sum_by count (sources seen) → kind_of so_far (fields l.bytes) ≡ o → fault_of seen l ≡ option_map kind_number o
+own_fault l seen so_far o e k = ap (option_map kind_number) (ap (λ (n : ℕ). kind_of n (fields l.bytes)) (sym e) ∙ k)
 
 pub one_source_more : (seen : List Line) (l : Line) (found : Source) → source_of (fields l.bytes) ≡ Some found → sources (seen ++ l ∷ []) ≡ sources seen ++ found ∷ []
 one_source_more seen l found e =
@@ -118,25 +91,23 @@ pub record Judged (l : Line) (so_far : ℕ) (found : Source) : Type 0 where
   pub source : source_of (fields l.bytes) ≡ Some found
   pub room : so_far + count found ≤ 65536
 
-pub takes : (text : List ℕ) (seed : ℕ) (l : Line) (rest later : List Line) (held more : Lights) (words left : Lcg) (so_far now : ℕ) (found : Source) → rest ≡ l ∷ later → 0 < length (fields l.bytes) → Judged l so_far found → Added held words found more left → now ≡ so_far + count found
+pub takes : (text : List ℕ) (seed : ℕ) (l : Line) (rest later : List Line) (held more : Lights) (words left : Lcg) (so_far now : ℕ) (found : Source) → spoken_in rest ≡ l ∷ spoken_in later → Judged l so_far found → Added held words found more left → now ≡ so_far + count found
     → Progress text seed rest held words so_far → Progress text seed later more left now
-takes text seed l rest later held more words left so_far now found e some j a n p =
-    let f = next_spoken l rest later e some in
+takes text seed l rest later held more words left so_far now found e j a n p =
     let grown : sources (p.seen ++ l ∷ []) ≡ sources p.seen ++ found ∷ [] = one_source_more p.seen l found j.source in
     record {
       seen = p.seen ++ l ∷ [];
       gathered = subst (λ (ss : List Source). Gathered (stream_of seed 3) ss more left) (sym grown) (gathers (stream_of seed 3) (sources p.seen) held more words left found p.gathered a);
       so_far_is = n ∙ ap (λ (m : ℕ). m + count found) p.so_far_is ∙ sym (ap (λ (ss : List Source). sum_by count ss) grown ∙ sum_by_push count (sources p.seen) found);
-      fault_is = p.fault_is ∙ ap (λ (ls : List Line). first_fault p.seen ls) f ∙ next_fault l p.seen (filter is_spoken later) None (own_fault l p.seen so_far None p.so_far_is j.kind);
-      spoken_is = p.spoken_is ∙ ap (λ (ls : List Line). p.seen ++ ls) f ∙ sym (append_assoc p.seen (l ∷ []) (filter is_spoken later));
+      lines = reader.takes fault_of text p.seen (spoken_in rest) (spoken_in later) l e (own_fault l p.seen so_far None p.so_far_is j.kind) p.lines;
       few = omega (arith, n, j.room);
     }
 
-pub stops : (text : List ℕ) (seed : ℕ) (l : Line) (rest later : List Line) (held : Lights) (words : Lcg) (so_far shown : ℕ) (kind : Kind) → rest ≡ l ∷ later → 0 < length (fields l.bytes) → kind_of so_far (fields l.bytes) ≡ Some kind → shown ≡ kind_number kind
+pub stops : (text : List ℕ) (seed : ℕ) (l : Line) (rest later : List Line) (held : Lights) (words : Lcg) (so_far shown : ℕ) (kind : Kind) → spoken_in rest ≡ l ∷ spoken_in later → kind_of so_far (fields l.bytes) ≡ Some kind → shown ≡ kind_number kind
     → Progress text seed rest held words so_far → fault_in text ≡ Some (record { line = l.number; kind = shown })
-stops text seed l rest later held words so_far shown kind e some k s p =
-    let own = own_fault l p.seen so_far (Some kind) p.so_far_is k in
-    p.fault_is ∙ ap (λ (ls : List Line). first_fault p.seen ls) (next_spoken l rest later e some) ∙ next_fault l p.seen (filter is_spoken later) (Some kind) own
+unfolding fault_in
+stops text seed l rest later held words so_far shown kind e k s p =
+    reader.stops fault_of text p.seen (spoken_in rest) (spoken_in later) l (kind_number kind) e (own_fault l p.seen so_far (Some kind) p.so_far_is k) p.lines
     ∙ ap (λ (m : ℕ). Some (record { line = l.number; kind = m })) (sym s)
 
 same_lights : (omni omni' : List Omni) (oriented oriented' : List Oriented) (sun sun' : List Sun) → omni ≡ omni' → oriented ≡ oriented' → sun ≡ sun'
@@ -147,11 +118,10 @@ gathered_lights : (seed : ℕ) (ss : List Source) (held : Lights) (words : Lcg) 
 unfolding lights_of
 gathered_lights seed ss held words h = same_lights held.omni _ held.oriented _ held.sun _ h.omni h.oriented h.sun
 
-pub ends : (text : List ℕ) (seed : ℕ) (rest : List Line) (held : Lights) (words : Lcg) (so_far : ℕ) → rest ≡ [] → Progress text seed rest held words so_far → (fault_in text ≡ None) × (held ≡ lights text seed)
-unfolding lights
+pub ends : (text : List ℕ) (seed : ℕ) (rest : List Line) (held : Lights) (words : Lcg) (so_far : ℕ) → spoken_in rest ≡ [] → Progress text seed rest held words so_far → (fault_in text ≡ None) × (held ≡ lights text seed)
+unfolding lights fault_in
 ends text seed rest held words so_far e p =
-    let none : filter is_spoken rest ≡ [] = ap (λ (ls : List Line). filter is_spoken ls) e in
-    let all : p.seen ≡ spoken text = sym (p.spoken_is ∙ ap (λ (ls : List Line). p.seen ++ ls) none ∙ append-nil p.seen) in (
-      p.fault_is ∙ ap (λ (ls : List Line). first_fault p.seen ls) none ∙ no_fault p.seen,
-      gathered_lights seed (sources p.seen) held words p.gathered ∙ ap (λ (ls : List Line). lights_of (stream_word seed 3) (sources ls)) all,
+    let all = reader.ends fault_of text p.seen (spoken_in rest) e p.lines in (
+      all.0,
+      gathered_lights seed (sources p.seen) held words p.gathered ∙ ap (λ (ls : List Line). lights_of (stream_word seed 3) (sources ls)) (sym all.1),
     )

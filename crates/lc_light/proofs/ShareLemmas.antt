@@ -7,7 +7,8 @@ use Rattle.std.proofs.lemmas.List.Sums.{sum_by-cons, sum_by-append}
 use Rattle.lc_light.specs.Areas.{numbered, sample, samples_from, share}
 use Rattle.lc_words.specs.Words.{stream_word}
 use Rattle.lc_light.specs.Sources.{IsSource, areas, samples, lights_of}
-use Rattle.lc_light.specs.LightFile.{area_lights, fault_in, lights, sources, spoken}
+use Rattle.lc_light.specs.LightFile.{area_lights, fault_in, lights, sources}
+use Rattle.lc_scan.specs.Spoken.{spoken}
 use Rattle.lc_light.specs.declared.source.Source.{Source}
 use Rattle.lc_light.specs.declared.source.Source.TheVariants as source
 use Rattle.lc_light.specs.declared.area.Area.{Area}

@@ -1,6 +1,7 @@
 -- The tests of a line, as its values are read one after the other.
 use Rattle.std.proofs.Common.{◌≡◌, ℕ, ◌+◌, ◌<◌, ◌≤◌, ◌≢◌, Bool, true, false, cond, eqb, leb, List, [], ◌∷◌, ◌++◌, length, drop, Option, Some, None, option_map, refl, ap, ◌∙◌, arith, nat_lt}
-use Rattle.std.specs.Prelude.{unwrap_or}
+use Rattle.std.specs.Prelude.{Result}
+use Rattle.lc_scan.specs.declared.fault.NumFault.{NumFault}
 use Rattle.std.proofs.lemmas.List.{drop-drop}
 use Rattle.std.proofs.lemmas.Bool.{ne_eqb, eq-eqb, le-leb, lt-leb}
 use Rattle.lc_num.specs.declared.vectors.Vec3.{Vec3}
@@ -15,7 +16,7 @@ use Rattle.lc_light.specs.declared.kind.Kind.{Kind}
 use Rattle.lc_light.specs.declared.kind.Kind.TheVariants as kind
 use Rattle.lc_light.specs.declared.source.Source.{Source}
 use Rattle.lc_light.specs.Sources.{count}
-use Rattle.lc_light.specs.LightLine.{whole_number, first_kind, vector_tests, side_tests, power_tests, samples_test, direction_test, unless, area_tests, shape_tests, vector_at, power_at, value_tests, value_count, tests, room_test, point, sun, area, source_by, source_of, keyword_of, kind_by, kind_of}
+use Rattle.lc_light.specs.LightLine.{whole_number, value, first_kind, vector_tests, side_tests, power_tests, samples_test, direction_test, unless, area_tests, shape_tests, vector_at, power_at, value_tests, value_count, tests, room_test, point, sun, area, source_by, source_of, keyword_of, kind_by, kind_of}
 use Rattle.lc_light.proofs.ValueLemmas.{found, passed, side_tests_after, power_tests_after, vector_after, power_after, whole_after}
 
 -- ---- points and suns
@@ -141,7 +142,7 @@ fourth_place values first second third rest h =
 pub area_count : (values first second third rest : List (List ℕ)) → HasPower values first second third rest → first_kind (area_tests values) ≡ first_kind (samples_test (whole_number 0 rest) ∷ [])
 area_count values first second third rest h =
     to_power values first second third h.sides ∙ passed (power_tests 0 third) (count_test values) h.power
-    ∙ ap (λ (o : Option ℕ). first_kind (samples_test o ∷ [])) (whole_after 12 values rest (fourth_place values first second third rest h))
+    ∙ ap (λ (o : Result ℕ NumFault). first_kind (samples_test o ∷ [])) (whole_after 12 values rest (fourth_place values first second third rest h))
 
 pub single : (o : Option Kind) (k : Kind) → o ≡ Some k → first_kind (o ∷ []) ≡ Some k
 single o k e = ap (λ (t : Option Kind). first_kind (t ∷ [])) e
@@ -155,7 +156,7 @@ pub record AreValues (values first second third rest : List (List ℕ)) (made : 
   pub along : vector_at 0 first ≡ made.along
   pub across : vector_at 0 second ≡ made.across
   pub power : power_at 0 third ≡ made.power
-  pub count : unwrap_or (whole_number 0 rest) 0 ≡ made.count
+  pub count : value (whole_number 0 rest) ≡ made.count
 
 same_area : (corner along across corner' along' across' : Vec3) (power power' : Power) (count count' : ℕ) → corner ≡ corner' → along ≡ along' → across ≡ across' → power ≡ power' → count ≡ count'
     → ◌≡◌ {A = Area} (record { corner = corner; along = along; across = across; power = power; count = count }) (record { corner = corner'; along = along'; across = across'; power = power'; count = count' })
@@ -169,7 +170,7 @@ area_is values first second third rest made h v =
     (vector_after 3 values first s.first_is ∙ v.along)
     (vector_after 6 values second (second_place values first second s.first_is s.second_is) ∙ v.across)
     (power_after 9 values third (third_place values first second third s.first_is s.second_is s.rest_is) ∙ v.power)
-    (ap (λ (o : Option ℕ). unwrap_or o 0) (whole_after 12 values rest (fourth_place values first second third rest h)) ∙ v.count)
+    (ap value (whole_after 12 values rest (fourth_place values first second third rest h)) ∙ v.count)
 
 pub area_value : (values : List (List ℕ)) (k : Kind) → first_kind (area_tests values) ≡ Some k → first_kind (value_tests keyword.Area values) ≡ Some k
 unfolding value_tests

@@ -1,5 +1,5 @@
 -- The lights of a text without a fault are within their ranges.
-use Rattle.std.proofs.Common.{◌≡◌, ℕ, suc, ◌+◌, ◌/◌, ◌%◌, ◌^◌, ◌<◌, ◌≤◌, Bool, true, false, cond, List, [], ◌∷◌, ◌++◌, length, Option, Some, None, refl, sym, ap, subst, ◌∙◌, append_assoc, arith, length-append, nat_lt, le_trans}
+use Rattle.std.proofs.Common.{◌≡◌, ℕ, suc, ◌+◌, ◌/◌, ◌%◌, ◌^◌, ◌<◌, ◌≤◌, Bool, true, false, cond, List, [], ◌∷◌, ◌++◌, length, Option, Some, None, option_map, refl, sym, ap, subst, ◌∙◌, append_assoc, arith, length-append, nat_lt, le_trans}
 use Rattle.std.specs.Prelude.{All, flat_map, sum_by}
 use Rattle.std.specs.List.{cons_option, range_with_len}
 use Rattle.std.proofs.lemmas.List.{append-nil}
@@ -13,12 +13,15 @@ use Rattle.lc_num.specs.Vectors.{cross}
 use Rattle.lc_words.specs.Words.{stream_of, stream_word}
 use Rattle.lc_words.proofs.WordLaws.{word_small}
 use Rattle.lc_num.specs.Faults.{Fault}
-use Rattle.lc_light.specs.Lines.{Line}
-use Rattle.lc_light.specs.Fields.{fields}
+use Rattle.lc_scan.specs.Lines.{Line}
+use Rattle.lc_scan.specs.Fields.{fields}
+use Rattle.lc_scan.specs.Spoken.{spoken}
+use Rattle.lc_scan.specs.Faults.{fault_then, first_fault}
+use Rattle.lc_light.specs.Kinds.{kind_number}
 use Rattle.lc_light.specs.Areas.{IsArea, normal, sample, samples_from, share}
 use Rattle.lc_light.specs.Lights.{IsOmni, IsOriented, IsSun, AreLights}
-use Rattle.lc_light.specs.LightLine.{source_of}
-use Rattle.lc_light.specs.LightFile.{sources, spoken, fault_of, fault_then, first_fault, fault_in, lights}
+use Rattle.lc_light.specs.LightLine.{kind_of, source_of}
+use Rattle.lc_light.specs.LightFile.{sources, fault_of, fault_in, lights}
 use Rattle.lc_light.specs.Sources.{IsSource, count, points, samples, suns, lights_of}
 use Rattle.lc_light.specs.declared.area.Area.{Area}
 use Rattle.lc_light.specs.declared.kind.Kind.{Kind}
@@ -30,7 +33,7 @@ use Rattle.lc_light.proofs.ReadLemmas.{one_source_more}
 
 -- ---- the sources
 
-none_then : (o : Option Kind) (n : ℕ) (later : Option Fault) → fault_then o n later ≡ None → (o ≡ None) × (later ≡ None)
+none_then : (o : Option Kind) (n : ℕ) (later : Option Fault) → fault_then (option_map kind_number o) n later ≡ None → (o ≡ None) × (later ≡ None)
 none_then None n later h = (refl, h)
 none_then (Some kind) n later h = absurd cc
 
@@ -39,7 +42,7 @@ record AreSources (ss : List Source) : Type 0 where
   valid : All IsSource ss
   few : sum_by count ss ≤ 65536
 
-with_line : (before : List Line) (l : Line) (o : Option Source) → source_of (fields l.bytes) ≡ o → AreSources (sources before) → fault_of before l ≡ None → AreSources (sources (before ++ l ∷ []))
+with_line : (before : List Line) (l : Line) (o : Option Source) → source_of (fields l.bytes) ≡ o → AreSources (sources before) → kind_of (sum_by count (sources before)) (fields l.bytes) ≡ None → AreSources (sources (before ++ l ∷ []))
 with_line before l None e h none =
     let same : sources (before ++ l ∷ []) ≡ sources before = filter_map-append (λ (m : Line). source_of (fields m.bytes)) before (l ∷ []) ∙ ap (λ (o : Option Source). sources before ++ cons_option o []) e ∙ append-nil (sources before) in
     subst AreSources (sym same) h
@@ -47,11 +50,11 @@ with_line before l (Some found) e h none =
     let own = fine (sum_by count (sources before)) (fields l.bytes) found none e in
     subst AreSources (sym (one_source_more before l found e)) (record { valid = All-push IsSource (sources before) found h.valid own.range; few = omega (arith, own.room, sum_by_push count (sources before) found) })
 
-all_fine : (before later : List Line) → first_fault before later ≡ None → AreSources (sources before) → AreSources (sources (before ++ later))
+all_fine : (before later : List Line) → first_fault fault_of before later ≡ None → AreSources (sources before) → AreSources (sources (before ++ later))
 unfolding first_fault
 all_fine before [] h valid = subst (λ (ls : List Line). AreSources (sources ls)) (sym (append-nil before)) valid
 all_fine before (l ∷ later) h valid =
-    let both = none_then (fault_of before l) l.number (first_fault (before ++ l ∷ []) later) h in
+    let both = none_then (kind_of (sum_by count (sources before)) (fields l.bytes)) l.number (first_fault fault_of (before ++ l ∷ []) later) h in
     subst (λ (ls : List Line). AreSources (sources ls)) (append_assoc before (l ∷ []) later) (all_fine (before ++ l ∷ []) later both.1 (with_line before l (source_of (fields l.bytes)) refl valid both.0))
 
 -- the sources of a text without a fault

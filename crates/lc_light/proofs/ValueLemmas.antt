@@ -1,7 +1,8 @@
 -- Tests in a row, and the values of a line that are still to come.
 use Rattle.std.proofs.Common.{◌≡◌, ℕ, ◌+◌, List, [], ◌∷◌, ◌++◌, drop, Option, Some, None, refl, sym, ap, ◌∙◌, add-zero}
 use Rattle.std.proofs.lemmas.List.{get_or-drop}
-use Rattle.lc_light.specs.Numbers.{short_units, whole}
+use Rattle.lc_scan.specs.Decimal.{decimal_of}
+use Rattle.lc_scan.specs.Whole.{whole_of}
 use Rattle.lc_light.specs.declared.kind.Kind.{Kind}
 use Rattle.lc_light.specs.LightLine.{number, whole_number, first_kind, vector_tests, side_tests, power_tests, vector_at, power_at}
 
@@ -32,13 +33,13 @@ first_passed (Some kind) later h = absurd cc
 -- ---- the values after the first k
 
 number_after : (k j : ℕ) (values rest : List (List ℕ)) → rest ≡ drop k values → number (k + j) values ≡ number j rest
-number_after k j values rest e = sym (ap (number j) e ∙ ap short_units (get_or-drop k values j []))
+number_after k j values rest e = sym (ap (number j) e ∙ ap decimal_of (get_or-drop k values j []))
 
 first_number : (k : ℕ) (values rest : List (List ℕ)) → rest ≡ drop k values → number k values ≡ number 0 rest
 first_number k values rest e = ap (λ (n : ℕ). number n values) (sym (add-zero k)) ∙ number_after k 0 values rest e
 
 pub whole_after : (k : ℕ) (values rest : List (List ℕ)) → rest ≡ drop k values → whole_number k values ≡ whole_number 0 rest
-whole_after k values rest e = ap (λ (n : ℕ). whole_number n values) (sym (add-zero k)) ∙ sym (ap (whole_number 0) e ∙ ap whole (get_or-drop k values 0 []))
+whole_after k values rest e = ap (λ (n : ℕ). whole_number n values) (sym (add-zero k)) ∙ sym (ap (whole_number 0) e ∙ ap whole_of (get_or-drop k values 0 []))
 
 module _ (k : ℕ) (values rest : List (List ℕ)) (e : rest ≡ drop k values) where
   pub vector_tests_after : vector_tests k values ≡ vector_tests 0 rest

@@ -1,8 +1,4 @@
 pub mod Lights
-pub mod Numbers
-pub mod Spelling
-pub mod Lines
-pub mod Fields
 pub mod Kinds
 pub mod Areas
 pub mod Sources
@@ -13,3 +9,9 @@ pub use Rattle.lc_num.specs.Channels
 pub use Rattle.lc_num.specs.Faults
 pub use Rattle.lc_num.specs.Cosines
 pub use Rattle.lc_words.specs.Words
+pub use Rattle.lc_scan.specs.Lines
+pub use Rattle.lc_scan.specs.Fields
+pub use Rattle.lc_scan.specs.Spoken
+pub use Rattle.lc_scan.specs.Faults as FirstFaults
+pub use Rattle.lc_scan.specs.Decimal
+pub use Rattle.lc_scan.specs.Whole

@@ -1,11 +1,13 @@
 -- One line of a light file: its source of light, and the tests that it has to pass.
-use Rattle.std.specs.Prelude.{ℕ, ◌+◌, ◌==◌, Bool, ◌&&◌, nat_lt, nat_le, List, [], ◌∷◌, ◌++◌, length, Option, Some, None, option_map, ℤ, pos, negsuc, unsigned_abs, unwrap_or, if◌then◌else◌, codes, slice_index_or}
+use Rattle.std.specs.Prelude.{ℕ, ◌+◌, ◌==◌, Bool, ◌&&◌, nat_lt, nat_le, List, [], ◌∷◌, ◌++◌, length, Option, Some, None, option_map, Result, Ok, Err, ℤ, pos, negsuc, unsigned_abs, if◌then◌else◌, codes, slice_index_or}
 use Rattle.std.specs.Str.{bytes_eq}
 use Rattle.lc_num.specs.declared.vectors.Vec3.{Vec3}
 use Rattle.lc_num.specs.declared.channels.Power.{Power}
 use Rattle.lc_num.specs.Vectors.{square}
 use Rattle.lc_num.specs.Cosines.{scaled}
-use Rattle.lc_light.specs.Numbers.{short_units, whole}
+use Rattle.lc_scan.specs.Decimal.{decimal_of}
+use Rattle.lc_scan.specs.Whole.{whole_of}
+use Rattle.lc_scan.specs.declared.fault.NumFault.{NumFault}
 use Rattle.lc_light.specs.Areas.{has_places, spans}
 use Rattle.lc_light.specs.Sources.{count}
 use Rattle.lc_light.specs.declared.area.Area.{Area}
@@ -27,16 +29,22 @@ keyword_of word =
     else (if bytes_eq word (codes "sun") then Some keyword.Sun else (if bytes_eq word (codes "area") then Some keyword.Area else None))
 
 -- the k-th value as a number
-abbrev pub number : ℕ → List (List ℕ) → Option ℤ
-number k values = short_units (slice_index_or values k [])
+abbrev pub number : ℕ → List (List ℕ) → Result ℤ NumFault
+number k values = decimal_of (slice_index_or values k [])
 
 -- the k-th value as a whole number
-abbrev pub whole_number : ℕ → List (List ℕ) → Option ℕ
-whole_number k values = whole (slice_index_or values k [])
+abbrev pub whole_number : ℕ → List (List ℕ) → Result ℕ NumFault
+whole_number k values = whole_of (slice_index_or values k [])
 
 -- the units of a number
-abbrev pub units : Option ℤ → ℤ
-units number = unwrap_or number (pos 0)
+abbrev pub units : Result ℤ NumFault → ℤ
+units (Ok z) = z
+units (Err fault) = pos 0
+
+-- the value of a whole number
+abbrev pub value : Result ℕ NumFault → ℕ
+value (Ok n) = n
+value (Err fault) = 0
 
 -- three values from the k-th as a place or a direction
 abbrev pub vector_at : ℕ → List (List ℕ) → Vec3
@@ -62,7 +70,7 @@ area values = record {
   along = vector_at 3 values;
   across = vector_at 6 values;
   power = power_at 9 values;
-  count = unwrap_or (whole_number 12 values) 0;
+  count = value (whole_number 12 values);
 }
 
 abbrev pub source_by : Keyword → List (List ℕ) → Source
@@ -80,25 +88,25 @@ source_of (word ∷ values) = option_map (λ key. source_by key values) (keyword
 abbrev pub unless : Bool → Kind → Option Kind
 unless passes kind = if passes then None else Some kind
 
-abbrev pub number_test : Option ℤ → Option Kind
-number_test None = Some kind.Number
-number_test (Some z) = None
+abbrev pub number_test : Result ℤ NumFault → Option Kind
+number_test (Err fault) = Some kind.Number
+number_test (Ok z) = None
 
 -- a coordinate is a number from -5000 to 5000
-abbrev pub coordinate_test : Option ℤ → Option Kind
-coordinate_test None = Some kind.Number
-coordinate_test (Some z) = unless (nat_le (unsigned_abs z) 50000000) kind.Range
+abbrev pub coordinate_test : Result ℤ NumFault → Option Kind
+coordinate_test (Err fault) = Some kind.Number
+coordinate_test (Ok z) = unless (nat_le (unsigned_abs z) 50000000) kind.Range
 
 -- an intensity is a number from 0 to 10000
-abbrev pub intensity_test : Option ℤ → Option Kind
-intensity_test None = Some kind.Number
-intensity_test (Some (negsuc n)) = Some kind.Negative
-intensity_test (Some (pos n)) = unless (nat_le n 100000000) kind.Range
+abbrev pub intensity_test : Result ℤ NumFault → Option Kind
+intensity_test (Err fault) = Some kind.Number
+intensity_test (Ok (negsuc n)) = Some kind.Negative
+intensity_test (Ok (pos n)) = unless (nat_le n 100000000) kind.Range
 
 -- a number of samples is a whole number from 1 to 4096
-abbrev pub samples_test : Option ℕ → Option Kind
-samples_test None = Some kind.Number
-samples_test (Some n) = unless (nat_lt 0 n && nat_le n 4096) kind.SampleCount
+abbrev pub samples_test : Result ℕ NumFault → Option Kind
+samples_test (Err fault) = Some kind.Number
+samples_test (Ok n) = unless (nat_lt 0 n && nat_le n 4096) kind.SampleCount
 
 abbrev pub vector_tests : ℕ → List (List ℕ) → List (Option Kind)
 vector_tests k values = coordinate_test (number k values) ∷ coordinate_test (number (k + 1) values) ∷ coordinate_test (number (k + 2) values) ∷ []

@@ -26,16 +26,16 @@ pub struct Area {
 }
 
 fn shifted(at: i64, by: i64) -> i64
-    requires at { unsigned_abs at ≤ 2 ^ 40 }
-    requires by { unsigned_abs by ≤ 2 ^ 40 }
+    requires at { unsigned_abs at ≤ 2 ^ 60 }
+    requires by { unsigned_abs by ≤ 2 ^ 60 }
     ensures { result ≡ at +ℤ by }
 {
     at + by
 }
 
 fn moved(place: Vec3, by: Vec3) -> Vec3
-    requires place { Within (2 ^ 39) place }
-    requires by { Within (2 ^ 39) by }
+    requires place { Within (2 ^ 50) place }
+    requires by { Within (2 ^ 50) by }
     ensures value { result ≡ moved place by }
 {
     Vec3 {
@@ -91,8 +91,8 @@ impl Area {
     /// Whether the three corners besides the first have coordinates in their range.
     pub fn has_places(&self) -> bool
         requires corner { Within 50_000_000 self.now.corner }
-        requires along { Within (10 ^ 10) self.now.along }
-        requires across { Within (10 ^ 10) self.now.across }
+        requires along { Within (10 ^ 14) self.now.along }
+        requires across { Within (10 ^ 14) self.now.across }
         ensures { result ≡ has_places self.now }
     {
         let along = moved(self.corner, self.along);

@@ -2,13 +2,10 @@
 #![tactic(auto)]
 
 mod area;
-mod fields;
 mod keyword;
 mod kind;
 mod lights;
 mod line;
-mod lines;
-mod numbers;
 mod reader;
 mod source;
 mod stop;
@@ -16,7 +13,6 @@ mod values;
 
 pub use area::area_powers_add_up;
 pub use lights::{Lights, Omni, Oriented, Sun};
-pub use numbers::{short_number, short_numbers_are_spelled};
 pub use reader::{oriented_powers_are_those_of_areas, read_lights};
 pub use stop::LightStop;
 

@@ -1,28 +1,21 @@
 // One line of a light file.
 ghost use Rattle.std.specs.Prelude.{◌≡◌, ◌+◌, ◌<◌, ◌≤◌, ◌^◌, [], ◌∷◌, length, drop, Some, None, IfOk, MatchResult, IsTrue, ◌↔◌};
 ghost use Rattle.lc_num.specs.Vectors.{Within};
-ghost use Rattle.lc_light.specs.Fields.{fields};
+ghost use Rattle.lc_scan.specs.Fields.{fields};
 ghost use Rattle.lc_light.specs.Sources.{IsSource, count};
 ghost use Rattle.lc_light.specs.LightLine.{point, sun, area, source_by, source_of, area_tests, value_tests, value_count, keyword_of, first_kind, kind_of};
 
 use crate::area::Area;
-use crate::fields::{Fields, count};
 use crate::keyword::Keyword;
 use crate::kind::Kind;
 use crate::lights::{Omni, Sun};
 use crate::source::Source;
 use crate::values::{power, samples, side, vector};
 use lc_num::{scaled, square};
+use lc_scan::{Fields, count};
 
 const MOST_LIGHTS: usize = 65_536;
 
-pub fn has_fields(line: &[u8]) -> bool
-    ensures { IsTrue result ↔ (0 < length (fields line.now)) }
-{
-    Fields::new(line).next_field().is_some()
-}
-
-/// The light of the values of a point.
 fn point(values: &mut Fields) -> Result<Omni, Kind>
     requires { 6 ≤ length values.old }
     ensures { MatchResult result
@@ -58,7 +51,7 @@ fn read_area(values: &mut Fields) -> Result<Area, Kind>
     ensures value { MatchResult result
         (λ made. (first_kind (area_tests values.old) ≡ None) × (area values.old ≡ made))
         (λ kind. first_kind (area_tests values.old) ≡ Some kind) }
-    ensures range { IfOk result (λ made. Within 50_000_000 made.corner × Within (10 ^ 10) made.along × Within (10 ^ 10) made.across) }
+    ensures range { IfOk result (λ made. Within 50_000_000 made.corner × Within (10 ^ 14) made.along × Within (10 ^ 14) made.across) }
 {
     let corner = vector(values)?;
     let along = side(values)?;

@@ -9,11 +9,11 @@ ghost use Rattle.lc_light.specs.Sources.{IsSource, points, samples, suns};
 ghost use Rattle.lc_words.specs.Words.{after, word_of};
 
 use crate::lights::Lights;
-use crate::line::{has_fields, source_in};
-use crate::lines::Lines;
+use crate::line::source_in;
 use crate::source::Source;
 use crate::stop::LightStop;
 use lc_num::{List, Memory};
+use lc_scan::{Lines, next_spoken};
 use lc_words::Stream;
 use std::alloc::Global;
 
@@ -57,19 +57,17 @@ pub fn read_lights(alloc: Global, bytes: &[u8], seed: u64) -> Result<Lights, Lig
     let mut words = Stream::new(seed, AREA_STREAM);
     let mut so_far = 0;
     let mut lines = Lines::new(bytes);
-    while let Some((number, line)) = lines.next_line() {
-        if has_fields(line) {
-            match source_in(line, so_far) {
-                Ok(source) => {
-                    add(&mut lights, source, &mut words)?;
-                    so_far += source.count();
-                }
-                Err(kind) => {
-                    return Err(LightStop::Fault {
-                        line: number,
-                        kind: kind.number(),
-                    });
-                }
+    while let Some((number, line)) = next_spoken(&mut lines) {
+        match source_in(line, so_far) {
+            Ok(source) => {
+                add(&mut lights, source, &mut words)?;
+                so_far += source.count();
+            }
+            Err(kind) => {
+                return Err(LightStop::Fault {
+                    line: number,
+                    kind: kind.number(),
+                });
             }
         }
     }

@@ -1,40 +1,7 @@
-// Worked examples of light files and of numbers in their short form.
+// Worked examples of light files.
 use super::*;
 use lc_num::{Power, Vec3};
 use std::test::*;
-
-#[test]
-fn numbers(rt: HostRuntime) {
-    short_numbers_are_spelled();
-    for (field, wanted) in [
-        (b"0".as_slice(), Some(0)),
-        (b"-0", Some(0)),
-        (b"+1", Some(10_000)),
-        (b"-1.5", Some(-15_000)),
-        (b"0.0001", Some(1)),
-        (b"0.001", Some(10)),
-        (b"0.12", Some(1_200)),
-        (b"000007.0", Some(70_000)),
-        (b"999999.9999", Some(9_999_999_999)),
-        (b"-999999.9999", Some(-9_999_999_999)),
-        (b"", None),
-        (b"+", None),
-        (b".", None),
-        (b".5", None),
-        (b"-.5", None),
-        (b"1.", None),
-        (b"1e0", None),
-        (b"1.00000", None),
-        (b"1000000", None),
-        (b"+-1", None),
-        (b"1.2.3", None),
-        (b" 1", None),
-        (b"1\0", None),
-        (b"\xB2", None),
-    ] {
-        assert_eq!(rt; short_number(field), wanted, "at {field:?}");
-    }
-}
 
 #[test]
 fn lights(rt: HostRuntime) {
@@ -140,18 +107,24 @@ fn faults(rt: HostRuntime) {
         (b"spot 0 0 1 1 1 1".as_slice(), 1, 1),
         (b"Point 0 0 0 1 1 1\n", 1, 1),
         (b"points 0 0\n", 1, 1),
-        (b"\xEF\xBB\xBFpoint 0 0 0 1 1 1\n", 1, 1),
+        (b"\n\xEF\xBB\xBFpoint 0 0 0 1 1 1\n", 2, 1),
         (b"point\x0B0 0 0 1 1 1\n", 1, 1),
         (b"point", 1, 3),
         (b"point 0 0 0 1 1\n", 1, 3),
         (b"point 0 0 0 1 1 #1\n", 1, 3),
         (b"point 0 0 0 1 1 1 1\n", 1, 3),
-        (b"point 0 0 0 1 1 1 \\\n", 1, 3),
+        (b"point 0 0 0 1 1 1 \\ \n", 1, 3),
+        (b"point 0 0 0 1 1 1 \\\n1\n", 1, 3),
         (b"point 0 0 0 1 1\x001\n", 1, 3),
         (b"point x 0 0 1 1\n", 1, 3),
         (b"point x 0 0 1 1 1\n", 1, 2),
-        (b"point 0 1234567 0 1 1 1\n", 1, 2),
-        (b"point 0 0 0 0.12345 1 1\n", 1, 2),
+        (b"point 0 1234567 0 1 1 1\n", 1, 4),
+        (b"point 0 1e11 0 1 1 1\n", 1, 2),
+        (b"point 0 0 0 1e41 1 1\n", 1, 2),
+        (b"point 0 0 0 0.0000000000000000000000000000001 1 1\n", 1, 2),
+        (b"point 0 0 0 nan 1 1\n", 1, 2),
+        (b"point 0 0 0 1 1 -0.00005\n", 1, 5),
+        (b"point 5000.00005 0 0 1 1 1\n", 1, 4),
         (b"point 0 0 0 1 1 1#\n", 1, 2),
         (b"point 0 0 x -1 1 1\n", 1, 2),
         (b"point 0 0 0 -0.0001 1 1\n", 1, 5),
@@ -172,7 +145,13 @@ fn faults(rt: HostRuntime) {
         (b"area 0 0 0 1 0 0 0 1 0 1 1 1 x", 1, 2),
         (b"area 0 0 0 1 0 0 0 1 0 1 1 1 1.0", 1, 2),
         (b"area 0 0 0 1 0 0 0 1 0 1 1 1 +1", 1, 2),
-        (b"area 0 0 0 1 0 0 0 1 0 1 1 1 0000001", 1, 2),
+        (b"area 0 0 0 1 0 0 0 1 0 1 1 1 1e0", 1, 2),
+        (b"area 0 0 0 1 0 0 0 1 0 1 1 1 18446744073709551616", 1, 2),
+        (b"area 0 0 0 1 0 0 0 1 0 1 1 1 18446744073709551615", 1, 8),
+        (b"area 0 0 0 1e11 0 0 0 1 0 1 1 1 1", 1, 2),
+        (b"area 0 0 0 1e10 0 0 -1e10 1 0 1 1 1 1", 1, 4),
+        (b"area 0 0 0 0.00004 0 0 0 1 0 1 1 1 1", 1, 7),
+        (b"point 0 0 0 \\\n 1 1 1\\\r\n\n\\\nbad", 4, 1),
         (b"area 0 0 0 1 0 0 0 1 0 1 1 1 0", 1, 8),
         (b"area 0 0 0 1 0 0 0 1 0 1 1 1 4097", 1, 8),
         (b"area 0 0 0 9000 0 0 0 x 0 1 1 1 0", 1, 2),
@@ -201,7 +180,10 @@ fn faults(rt: HostRuntime) {
 fn limits(rt: HostRuntime) {
     for text in [
         b"area 0 0 0 1 0 0 0 1 0 1 1 1 1".as_slice(),
-        b"area 0 0 0 1 0 0 0 1 0 1 1 1 004096",
+        b"area 0 0 0 1 0 0 0 1 0 1 1 1 000000000000000000000000004096",
+        b"\xEF\xBB\xBFpoint 0 0 \\\n1 1 1 1\n",
+        b"point 0 0 0 1 1 1 \\\n",
+        b"point 5000.00004 -5000.00004 1e-40 -0.00004 1e4 +.5e+3",
         b"area 5000 -5000 5000 -10000 0 0 0 10000 0 1 1 1 1",
         b"area 0 -1 0 5000 0 -0.0001 0 -4999 0 10000 0 0 1",
     ] {

@@ -1,13 +1,12 @@
 // The values of a line, one after the other.
-ghost use Rattle.std.specs.Prelude.{◌≡◌, ◌<◌, ◌≤◌, ◌^◌, length, drop, Some, None, IfOk, OnOk, MatchResult, unsigned_abs, unwrap_or};
+ghost use Rattle.std.specs.Prelude.{◌≡◌, ◌<◌, ◌≤◌, ◌^◌, length, drop, Some, None, IfOk, OnOk, MatchResult, unsigned_abs};
 ghost use Rattle.lc_num.specs.Vectors.{Within};
-ghost use Rattle.lc_light.specs.LightLine.{number, whole_number, units, vector_at, power_at, number_test, coordinate_test, intensity_test, samples_test, side_tests, vector_tests, power_tests, first_kind};
+ghost use Rattle.lc_light.specs.LightLine.{number, whole_number, units, value, vector_at, power_at, number_test, coordinate_test, intensity_test, samples_test, side_tests, vector_tests, power_tests, first_kind};
 
 use crate::area::MOST_COORDINATE;
-use crate::fields::Fields;
 use crate::kind::Kind;
-use crate::numbers::{short_number, whole};
 use lc_num::{Power, Vec3};
+use lc_scan::{Fields, decimal, whole};
 
 // 10000, in units of 1/10000.
 const MOST_INTENSITY: i64 = 100_000_000;
@@ -21,14 +20,14 @@ fn number(values: &mut Fields) -> Result<i64, Kind>
     ensures value { MatchResult result
         (λ z. (number_test (number 0 values.old) ≡ None) × (units (number 0 values.old) ≡ z))
         (λ kind. number_test (number 0 values.old) ≡ Some kind) }
-    ensures range { IfOk result (λ z. unsigned_abs z ≤ 10 ^ 10) }
+    ensures range { IfOk result (λ z. unsigned_abs z ≤ 10 ^ 14) }
 {
     let Some(field) = values.next_field() else {
         return Err(Kind::Number);
     };
-    match short_number(field) {
-        None => Err(Kind::Number),
-        Some(z) => Ok(z),
+    match decimal(field) {
+        Err(_) => Err(Kind::Number),
+        Ok(z) => Ok(z),
     }
 }
 
@@ -44,9 +43,9 @@ fn coordinate(values: &mut Fields) -> Result<i64, Kind>
     let Some(field) = values.next_field() else {
         return Err(Kind::Number);
     };
-    match short_number(field) {
-        None => Err(Kind::Number),
-        Some(z) => {
+    match decimal(field) {
+        Err(_) => Err(Kind::Number),
+        Ok(z) => {
             if z.unsigned_abs() > MOST_COORDINATE {
                 Err(Kind::Range)
             } else {
@@ -67,9 +66,9 @@ fn intensity(values: &mut Fields) -> Result<u64, Kind>
     let Some(field) = values.next_field() else {
         return Err(Kind::Number);
     };
-    match short_number(field) {
-        None => Err(Kind::Number),
-        Some(z) => {
+    match decimal(field) {
+        Err(_) => Err(Kind::Number),
+        Ok(z) => {
             if z < 0 {
                 Err(Kind::Negative)
             } else if z > MOST_INTENSITY {
@@ -85,15 +84,15 @@ fn intensity(values: &mut Fields) -> Result<u64, Kind>
 pub fn samples(values: &mut Fields) -> Result<u32, Kind>
     requires { 0 < length values.old }
     ensures value { MatchResult result
-        (λ n. (samples_test (whole_number 0 values.old) ≡ None) × (unwrap_or (whole_number 0 values.old) 0 ≡ n))
+        (λ n. (samples_test (whole_number 0 values.old) ≡ None) × (value (whole_number 0 values.old) ≡ n))
         (λ kind. samples_test (whole_number 0 values.old) ≡ Some kind) }
 {
     let Some(field) = values.next_field() else {
         return Err(Kind::Number);
     };
     match whole(field) {
-        None => Err(Kind::Number),
-        Some(n) => {
+        Err(_) => Err(Kind::Number),
+        Ok(n) => {
             if n == 0 || n > MOST_SAMPLES {
                 Err(Kind::SampleCount)
             } else {
@@ -110,7 +109,7 @@ pub fn side(values: &mut Fields) -> Result<Vec3, Kind>
     ensures value { MatchResult result
         (λ v. (first_kind (side_tests 0 values.old) ≡ None) × (vector_at 0 values.old ≡ v))
         (λ kind. first_kind (side_tests 0 values.old) ≡ Some kind) }
-    ensures range { IfOk result (Within (10 ^ 10)) }
+    ensures range { IfOk result (Within (10 ^ 14)) }
 {
     let x = number(values)?;
     let y = number(values)?;

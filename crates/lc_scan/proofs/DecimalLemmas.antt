@@ -1,14 +1,18 @@
 -- How a decimal is measured by its parts.
-use Rattle.std.proofs.Common.{◌≡◌, ℕ, ◌+◌, ◌*◌, ◌^◌, ◌<◌, ◌≤◌, Bool, true, false, ◌||◌, cond, ltb, ◌++◌, length, min, Ok, Err, ℤ, refl, sym, ap, ◌∙◌, arith, length-append, inl, inr}
+use Rattle.std.proofs.Common.{◌≡◌, ℕ, ◌+◌, ◌*◌, ◌^◌, ◌<◌, ◌≤◌, Bool, true, false, ◌||◌, cond, ltb, ◌++◌, length, min, Result, Ok, Err, IfOk, ℤ, refl, sym, ap, subst, ◌∙◌, arith, length-append, inl, inr}
+use Rattle.std.specs.Int.RustNames.{unsigned_abs}
 use Rattle.std.specs.List.{list_all}
 use Rattle.std.specs.Char.{is_ascii_digit}
 use Rattle.std.specs.Str.Parse.{digits_value, digits_value_after}
+use Rattle.std.proofs.lemmas.Int.{ints}
 use Rattle.std.proofs.lemmas.Bool.{lt-ltb, le-ltb, cases_lt}
 use Rattle.std.proofs.lemmas.List.Folds.{list_all-append}
+use Rattle.lc_scan.specs.declared.fault.NumFault.{NumFault}
 use Rattle.lc_scan.specs.declared.fault.NumFault.TheVariants.{TooLong, Range}
 use Rattle.lc_scan.specs.Whole.{are_digits}
-use Rattle.lc_scan.specs.Decimal.{Parts, is_decimal, is_exponent, exponent_size, is_too_long, size, nearest, signed, measured}
+use Rattle.lc_scan.specs.Decimal.{Parts, is_decimal, is_exponent, exponent_size, is_too_long, top, bottom, size, nearest, IsNearest, signed, measured}
 use Rattle.lc_scan.proofs.DigitLemmas.{both, after_append}
+use Rattle.lc_scan.proofs.UnitLemmas.{ten_pos, nearest_is}
 
 -- what stands before the point and after it are digits, and so is what stands in an exponent
 pub decimal_digits : (p : Parts) → is_decimal p ≡ true → (list_all is_ascii_digit p.before ≡ true) × (list_all is_ascii_digit p.after ≡ true) × (is_exponent p.exponent ≡ true)
@@ -78,3 +82,24 @@ unfolding size
 size-grows p front number places exponent r s e =
     let none : length p.after ≡ length p.after + 0 = omega arith in
     rw (all_digits p front number places r, r.places_is, e, s) (ap (λ (k : ℕ). nearest (digits_value 10 (p.before ++ p.after) * 10 ^ (4 + exponent_size p.exponent)) (10 ^ k)) none)
+
+-- ---- the nearest units
+
+signed_size : (negative : Bool) (n : ℕ) → unsigned_abs (signed negative n) ≡ n
+signed_size true n = omega (arith, ints)
+signed_size false n = refl
+
+units_are : (a b : Bool) (z w : ℤ) → cond a (Err TooLong) (cond b (Err Range) (Ok z)) ≡ Ok w → z ≡ w
+units_are true b z w e = absurd cc
+units_are false true z w e = absurd cc
+units_are false false z w e = cc
+
+size-nearest : (p : Parts) → IsNearest (size p) (top p) (bottom p)
+unfolding size
+size-nearest p = nearest_is (top p) (bottom p) (ten_pos (length p.after + cond p.shrinks (exponent_size p.exponent) 0))
+
+pub measured-nearest : (p : Parts) (r : Result ℤ NumFault) → r ≡ measured p → IfOk r (λ units. IsNearest (unsigned_abs units) (top p) (bottom p))
+measured-nearest p (Ok z) e =
+    let units = units_are (is_too_long p) (ltb (10 ^ 14) (size p)) (signed p.negative (size p)) z (sym e) in
+    subst (λ (n : ℕ). IsNearest n (top p) (bottom p)) (sym (signed_size p.negative (size p)) ∙ ap unsigned_abs units) (size-nearest p)
+measured-nearest p (Err fault) e = tt

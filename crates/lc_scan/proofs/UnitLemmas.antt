@@ -1,8 +1,8 @@
 -- Numbers times powers of ten, to the nearest.
-use Rattle.std.proofs.Common.{◌≡◌, ℕ, ◌+◌, ◌-◌, ◌*◌, ◌/◌, ◌^◌, ◌<◌, ◌≤◌, sym, ap, ◌∙◌, arith}
+use Rattle.std.proofs.Common.{◌≡◌, ℕ, ◌+◌, ◌-◌, ◌*◌, ◌/◌, ◌%◌, ◌^◌, ◌<◌, ◌≤◌, sym, ap, ◌∙◌, arith}
 use Rattle.std.proofs.lemmas.Nat.{pow-add, div-mul-add}
 use Rattle.std.proofs.Math.Nat.{pow-le-pow_right, one-le-pow, mul-div-mul_right, div-eq_of_lt, mul-le-mul_left, mul_assoc, mul_comm, le-mul_of_pos_right}
-use Rattle.lc_scan.specs.Decimal.{nearest}
+use Rattle.lc_scan.specs.Decimal.{nearest, IsNearest}
 
 pub ten_pos : (k : ℕ) → 0 < 10 ^ k
 ten_pos k = one-le-pow k 10 (omega arith)
@@ -53,3 +53,11 @@ shift_below t le = pow-le-pow_right {n = 10} (omega arith) le
 
 pub few_digits : (v n : ℕ) → v < 10 ^ n → n ≤ 30 → v < 10 ^ 30
 few_digits v n lt le = omega (arith, unit_below n le)
+
+-- the formula gives the nearest number
+pub nearest_is : (t b : ℕ) → 0 < b → IsNearest (nearest t b) t b
+nearest_is t b some =
+    let whole : 2 * b * nearest t b + (2 * t + b) % (2 * b) ≡ 2 * t + b = omega arith in
+    let left : (2 * t + b) % (2 * b) < 2 * b = omega arith in
+    let same : 2 * nearest t b * b ≡ 2 * b * nearest t b = mul_assoc 2 (nearest t b) b ∙ ap (λ (y : ℕ). 2 * y) (mul_comm (nearest t b) b) ∙ sym (mul_assoc 2 b (nearest t b)) in
+    record { low = omega arith; high = omega arith }

@@ -1,5 +1,5 @@
 -- Decimals of fields, in units of 1/10000.
-use Rattle.std.specs.Prelude.{ℕ, ◌+◌, ◌*◌, ◌/◌, ◌^◌, Bool, true, ◌||◌, ◌&&◌, ◌==◌, nat_lt, List, [], ◌∷◌, ◌++◌, length, Option, Some, None, Result, Ok, Err, ℤ, pos, neg_ℤ, if◌then◌else◌, slice_index}
+use Rattle.std.specs.Prelude.{ℕ, ◌+◌, ◌*◌, ◌/◌, ◌^◌, ◌<◌, ◌≤◌, Bool, true, ◌||◌, ◌&&◌, ◌==◌, nat_lt, List, [], ◌∷◌, ◌++◌, length, Option, Some, None, Result, Ok, Err, ℤ, pos, neg_ℤ, if◌then◌else◌, slice_index}
 use Rattle.std.specs.List.{list_any, before_first, after_first}
 use Rattle.std.specs.Str.Parse.{digits_value}
 use Rattle.lc_scan.specs.declared.fault.NumFault.{NumFault}
@@ -67,6 +67,11 @@ bottom p = 10 ^ (length p.after + (if p.shrinks then exponent_size p.exponent el
 -- the nearest whole number to t / b, halves up
 abbrev pub nearest : ℕ → ℕ → ℕ
 nearest t b = (2 * t + b) / (2 * b)
+
+-- n - 1/2 <= t / b < n + 1/2
+pub record IsNearest (n t b : ℕ) : Type 0 where
+  pub low : 2 * n * b ≤ 2 * t + b
+  pub high : 2 * t < 2 * n * b + b
 
 -- the nearest number of units, sign apart
 unfoldable pub size : Parts → ℕ

@@ -1,7 +1,7 @@
 // Decimals, in units of 1/10000.
-ghost use Rattle.std.specs.Prelude.{◌≡◌, ◌↔◌, ◌+◌, ◌*◌, ◌^◌, ◌<◌, ◌≤◌, length, IsErrOf, IsTrue, MatchOption, min, option_copied, position, true, false, []};
+ghost use Rattle.std.specs.Prelude.{◌≡◌, ◌↔◌, ◌+◌, ◌*◌, ◌^◌, ◌<◌, ◌≤◌, length, IfOk, IsErrOf, IsTrue, MatchOption, unsigned_abs, min, option_copied, position, true, false, []};
 ghost use Rattle.std.specs.List.{list_any, before_first, after_first};
-ghost use Rattle.lc_scan.specs.Decimal.{is_mark, is_point, unsigned, is_negative, parts_of, is_exponent, exponent_size, is_decimal, nearest, size, measured, decimal_of};
+ghost use Rattle.lc_scan.specs.Decimal.{is_mark, is_point, unsigned, is_negative, parts_of, is_exponent, exponent_size, is_decimal, nearest, IsNearest, top, bottom, size, measured, decimal_of};
 ghost use Rattle.lc_scan.specs.Spelling.{Spelling, IsDecimal, spelled, parts};
 
 use crate::digits::{all_digits, are_digits, digits_value_after, up_to_41};
@@ -124,7 +124,7 @@ fn is_decimal(p: &DecimalParts) -> bool
     some && all_digits(p.before) && all_digits(p.after) && exponent
 }
 
-/// The nearest whole number to `number * 10^up / 10^down`, halves up, or a greater one than `MOST` where it is greater.
+/// The nearest whole number to `number * 10^up / 10^down`, halves up, or `MOST + 1` where it is greater.
 fn nearest_up_to_most(number: u128, up: u32, down: u32) -> u128
     requires number { number < 10 ^ 30 }
     requires up { up ≤ 44 }
@@ -163,7 +163,7 @@ fn exponent_up_to_41(exponent: Option<&[u8]>) -> u32
 }
 
 #[tactic(auto, unfolding(crate::specs::Decimal::size))]
-/// The units of a decimal's parts, sign apart, or more than `MOST` where they are more.
+/// The units of a decimal's parts, sign apart, or `MOST + 1` where they are more.
 fn size_up_to_most(p: &DecimalParts, exponent: u32) -> u128
     requires decimal { IsTrue (is_decimal p.now) }
     requires digits { length p.now.before + length p.now.after ≤ 30 }
@@ -219,6 +219,10 @@ pub fn decimal(field: &[u8]) -> Result<i64, NumFault>
 
     // However a decimal is spelled, its parts are read.
     ensures spelled { (s : Spelling) → IsDecimal s → field.now ≡ spelled s → result ≡ measured (parts s) }
+
+    // The units are the nearest to 10000 times the fraction that is spelled, halves away from zero.
+    ensures nearest { (s : Spelling) → IsDecimal s → field.now ≡ spelled s →
+        IfOk result (λ units. IsNearest (unsigned_abs units) (top (parts s)) (bottom (parts s))) }
 
     // `Form` comes exactly where the field spells no decimal.
     ensures form { IsErrOf result NumFault.Form ↔ ((s : Spelling) → IsDecimal s → field.now ≡ spelled s → ⊥) }

@@ -19,8 +19,8 @@ fn number_of(field: &[u8]) -> Result<u64, NumFault>
     u64::try_from(number).map_err(|_| NumFault::Range)
 }
 
-/// The whole number that a field spells by one or more digits, of which at most 30 are read, up to the greatest number
-/// of 64 bits.
+/// The whole number that a field spells by one or more digits. It is `TooLong` with more than 30 digits, and out of
+/// `Range` above 18,446,744,073,709,551,615.
 pub fn whole(field: &[u8]) -> Result<u64, NumFault>
     ensures value { result ≡ whole_of field.now }
 

@@ -1,6 +1,6 @@
 use Rattle.std.proofs.Common.{sym, ◌∙◌, arith}
 use Rattle.std.proofs.lemmas.Result.{err_from_is_err_and}
-use Rattle.lc_light.specs.Fields.{fields}
+use Rattle.lc_scan.specs.Fields.{fields}
 use Rattle.lc_light.proofs.SourceLemmas.{HasKeyword, HasValues, no_keyword, wrong_count, wrong_value, no_room, no_fault, source_is}
 use Rattle.lc_light.proofs.LineRanges.{fine}
 use Rattle.lc_light.proofs.line.source_in.Goals as goal

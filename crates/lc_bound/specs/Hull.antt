@@ -1,4 +1,4 @@
--- Boxes of places: of one, around two, and as seen from a place.
+-- Boxes: of one point, around two boxes, and of the vectors from a place to a box and back.
 use Rattle.lc_num.specs.Vectors.{difference, greater, lesser}
 use Rattle.lc_num.specs.Boxes.{Ends}
 use Rattle.lc_num.specs.declared.vectors.Vec3.{Vec3}

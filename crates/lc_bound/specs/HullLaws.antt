@@ -1,4 +1,4 @@
--- Laws of boxes of places.
+-- Laws of boxes.
 use Rattle.std.proofs.Common.{ℕ, ◌+◌, ◌≤◌, ◌⊎◌, inl, inr, arith, ℤ, ◌-ℤ◌, ◌≤ℤ◌}
 use Rattle.std.specs.Int.RustNames.{unsigned_abs}
 use Rattle.std.specs.Int.{int_min, int_max}

@@ -1,4 +1,4 @@
-// Boxes of places: of one, around two, and as seen from a place.
+// Boxes: of one point, around two boxes, and of the vectors from a place to a box and back.
 ghost use Rattle.std.specs.Prelude.{◌≡◌, ◌^◌};
 ghost use Rattle.lc_num.specs.Vectors.{Within};
 ghost use Rattle.lc_num.specs.Boxes.{IsBoxWithin};

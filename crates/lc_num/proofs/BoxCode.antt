@@ -15,7 +15,8 @@ use Rattle.lc_num.specs.Cosines.{cosine_at_most}
 use Rattle.lc_num.specs.Boxes.{IsBoxWithin, nearest, near2, greatest_dot, greatest_product, greatest_dot_of_boxes}
 use Rattle.lc_num.specs.declared.vectors.Vec3.{Vec3}
 use Rattle.lc_num.proofs.SquareLemmas.{square-is}
-use Rattle.lc_num.proofs.BoxLemmas.{max_small, greatest_product-small}
+use Rattle.lc_num.proofs.BoxLemmas.{greatest_product-small}
+use Rattle.lc_num.proofs.ExtremeLemmas.{max_small}
 use Rattle.lc_num.proofs.CosineLemmas.{not_positive}
 use Rattle.lc_num.proofs.ScaledLemmas.{eqb_no}
 

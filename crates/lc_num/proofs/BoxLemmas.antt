@@ -11,6 +11,7 @@ use Rattle.lc_num.specs.Vectors.{Within, difference, dot, square}
 use Rattle.lc_num.specs.Boxes.{Ends, IsOrdered, IsInside, IsBoxWithin, CanBound, nearest, near2, greatest_dot, greatest_product, greatest_dot_of_boxes}
 use Rattle.lc_num.specs.declared.vectors.Vec3.{Vec3}
 use Rattle.lc_num.proofs.SquareLemmas.{square-is}
+use Rattle.lc_num.proofs.ExtremeLemmas.{max_small}
 
 -- the number between lo and hi that is nearest to x
 abbrev clamped : ℤ → ℤ → ℤ → ℤ
@@ -61,9 +62,6 @@ dot_below_greatest n b box h =
     (between_products n.x box.lo.x box.hi.x b.x h.x.0 h.x.1)
     (between_products n.y box.lo.y box.hi.y b.y h.y.0 h.y.1)
     (between_products n.z box.lo.z box.hi.z b.z h.z.0 h.z.1)
-
-pub max_small : (a b : ℤ) (m : ℕ) → unsigned_abs a ≤ m → unsigned_abs b ≤ m → unsigned_abs (int_max a b) ≤ m
-max_small a b m ha hb = omega (arith, ints, clamps)
 
 greatest_small_by : (n : Vec3) (box : Ends) (p q : ℕ) → Within p n → IsBoxWithin q box → unsigned_abs (greatest_dot n box) ≤ 3 * (p * q)
 unfolding greatest_dot

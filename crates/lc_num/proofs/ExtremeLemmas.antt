@@ -7,24 +7,24 @@ use Rattle.lc_algebra.proofs.Machine.{read}
 use Rattle.lc_num.specs.Vectors.{Within, greater, lesser}
 use Rattle.lc_num.specs.declared.vectors.Vec3.{Vec3}
 
-min_small : (m : ℕ) (a b : ℤ) → unsigned_abs a ≤ m → unsigned_abs b ≤ m → unsigned_abs (int_min a b) ≤ m
-min_small m a b ha hb = omega (arith, ints, clamps)
+min_small : (a b : ℤ) (m : ℕ) → unsigned_abs a ≤ m → unsigned_abs b ≤ m → unsigned_abs (int_min a b) ≤ m
+min_small a b m ha hb = omega (arith, ints, clamps)
 
-max_small : (m : ℕ) (a b : ℤ) → unsigned_abs a ≤ m → unsigned_abs b ≤ m → unsigned_abs (int_max a b) ≤ m
-max_small m a b ha hb = omega (arith, ints, clamps)
+pub max_small : (a b : ℤ) (m : ℕ) → unsigned_abs a ≤ m → unsigned_abs b ≤ m → unsigned_abs (int_max a b) ≤ m
+max_small a b m ha hb = omega (arith, ints, clamps)
 
 pub lesser_within : (m : ℕ) (a b : Vec3) → Within m a → Within m b → Within m (lesser a b)
 lesser_within m a b ha hb = record {
-  x = min_small m a.x b.x ha.x hb.x;
-  y = min_small m a.y b.y ha.y hb.y;
-  z = min_small m a.z b.z ha.z hb.z;
+  x = min_small a.x b.x m ha.x hb.x;
+  y = min_small a.y b.y m ha.y hb.y;
+  z = min_small a.z b.z m ha.z hb.z;
 }
 
 pub greater_within : (m : ℕ) (a b : Vec3) → Within m a → Within m b → Within m (greater a b)
 greater_within m a b ha hb = record {
-  x = max_small m a.x b.x ha.x hb.x;
-  y = max_small m a.y b.y ha.y hb.y;
-  z = max_small m a.z b.z ha.z hb.z;
+  x = max_small a.x b.x m ha.x hb.x;
+  y = max_small a.y b.y m ha.y hb.y;
+  z = max_small a.z b.z m ha.z hb.z;
 }
 
 -- ---- the code

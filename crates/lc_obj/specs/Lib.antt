@@ -1,0 +1,11 @@
+pub mod Kinds
+pub mod Keywords
+pub mod Corners
+pub mod Meshes
+pub mod ObjLine
+pub mod ObjFile
+pub mod Readings
+pub use Rattle.lc_num.specs.Vectors
+pub use Rattle.lc_num.specs.Faults
+pub use Rattle.lc_num.specs.Cosines
+pub use Rattle.lc_geom.specs.Triangles

@@ -1,0 +1,70 @@
+// The corners of a face.
+ghost use Rattle.std.specs.Prelude.{◌≡◌, ◌≤◌, length, Some, None, IfOk, MatchResult, option_map, slice_index_or};
+ghost use Rattle.lc_num.specs.Vectors.{Within, zero_vector};
+ghost use Rattle.lc_obj.specs.Corners.{AreTables, corner_of, corner_tests, index_test, no_uv, optional_test, place_of};
+ghost use Rattle.lc_obj.specs.ObjLine.{first_kind};
+
+use crate::index::{Index, Indices};
+use crate::kind::Kind;
+use crate::mesh::Uv;
+use crate::tables::Tables;
+use lc_num::Vec3;
+
+/// What a corner names: its place, and its texture place and its normal where it names them.
+#[derive(Clone, Copy)]
+pub struct Corner {
+    pub place: Vec3,
+    pub uv: Option<Uv>,
+    pub normal: Option<Vec3>,
+}
+
+fn vector_at(index: Index, given: &[Vec3]) -> Result<Vec3, Kind>
+    ensures { MatchResult result
+        (λ v. (index_test (length given.now) index ≡ None) × (slice_index_or given.now (place_of (length given.now) index) zero_vector ≡ v))
+        (λ kind. index_test (length given.now) index ≡ Some kind) }
+{
+    let at = index.among(given.len())?;
+    Ok(given[at])
+}
+
+fn uv_at(index: Option<Index>, given: &[Uv]) -> Result<Option<Uv>, Kind>
+    ensures { MatchResult result
+        (λ place. (optional_test (length given.now) index ≡ None)
+            × (option_map (λ i. slice_index_or given.now (place_of (length given.now) i) no_uv) index ≡ place))
+        (λ kind. optional_test (length given.now) index ≡ Some kind) }
+{
+    let Some(index) = index else {
+        return Ok(None);
+    };
+    let at = index.among(given.len())?;
+    Ok(Some(given[at]))
+}
+
+fn normal_at(index: Option<Index>, given: &[Vec3]) -> Result<Option<Vec3>, Kind>
+    ensures { MatchResult result
+        (λ normal. (optional_test (length given.now) index ≡ None)
+            × (option_map (λ i. slice_index_or given.now (place_of (length given.now) i) zero_vector) index ≡ normal))
+        (λ kind. optional_test (length given.now) index ≡ Some kind) }
+{
+    let Some(index) = index else {
+        return Ok(None);
+    };
+    let normal = vector_at(index, given)?;
+    Ok(Some(normal))
+}
+
+#[tactic(auto, unfolding(crate::specs::Corners::corner_tests, crate::specs::Corners::corner_of))]
+/// What a field of a face names.
+pub fn corner_in(field: &[u8], given: &Tables) -> Result<Corner, Kind>
+    ensures { MatchResult result
+        (λ corner. (first_kind (corner_tests given.now field.now) ≡ None) × (corner_of given.now field.now ≡ corner))
+        (λ kind. first_kind (corner_tests given.now field.now) ≡ Some kind) }
+{
+    let Some(indices) = Indices::of(field) else {
+        return Err(Kind::Number);
+    };
+    let place = vector_at(indices.place, given.places.as_slice())?;
+    let uv = uv_at(indices.uv, given.uvs.as_slice())?;
+    let normal = normal_at(indices.normal, given.normals.as_slice())?;
+    Ok(Corner { place, uv, normal })
+}

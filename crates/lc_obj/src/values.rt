@@ -1,0 +1,140 @@
+// The numbers of a line, one after the other.
+ghost use Rattle.std.specs.Prelude.{◌≡◌, ◌<◌, ◌≤◌, length, drop, Some, None, IfOk, OnOk, MatchResult, unsigned_abs};
+ghost use Rattle.lc_num.specs.Vectors.{Within};
+ghost use Rattle.lc_obj.specs.ObjLine.{coordinate_test, coordinate_tests, field, first_kind, number, number_or_0, number_test, number_tests, optional_number_test, uv, uv_tests, vector, vector_tests};
+
+use crate::kind::Kind;
+use crate::mesh::Uv;
+use lc_num::Vec3;
+use lc_scan::{Fields, decimal};
+
+/// 5000, in units of 1/10000.
+const MOST_COORDINATE: u64 = 50_000_000;
+
+/// The most places, texture places or normals of a file.
+const MOST_ITEMS: usize = 1_000_000;
+
+fn coordinate(values: &mut Fields) -> Result<i64, Kind>
+    requires { 0 < length values.old }
+    ensures rest { values.new ≡ drop 1 values.old }
+    ensures value { MatchResult result
+        (λ z. (coordinate_test (field 0 values.old) ≡ None) × (number 0 values.old ≡ z))
+        (λ kind. coordinate_test (field 0 values.old) ≡ Some kind) }
+    ensures range { IfOk result (λ z. unsigned_abs z ≤ 50_000_000) }
+{
+    let Some(value) = values.next_field() else {
+        return Err(Kind::Number);
+    };
+    match decimal(value) {
+        Err(_) => Err(Kind::Number),
+        Ok(z) => {
+            if z.unsigned_abs() > MOST_COORDINATE {
+                Err(Kind::Number)
+            } else {
+                Ok(z)
+            }
+        }
+    }
+}
+
+fn number(values: &mut Fields) -> Result<i64, Kind>
+    requires { 0 < length values.old }
+    ensures rest { values.new ≡ drop 1 values.old }
+    ensures value { MatchResult result
+        (λ z. (number_test (field 0 values.old) ≡ None) × (number 0 values.old ≡ z))
+        (λ kind. number_test (field 0 values.old) ≡ Some kind) }
+{
+    let Some(value) = values.next_field() else {
+        return Err(Kind::Number);
+    };
+    match decimal(value) {
+        Err(_) => Err(Kind::Number),
+        Ok(z) => Ok(z),
+    }
+}
+
+/// The next value as a number, or 0 where there is none.
+fn number_or_0(values: &mut Fields) -> Result<i64, Kind>
+    ensures { MatchResult result
+        (λ z. (optional_number_test values.old ≡ None) × (number_or_0 values.old ≡ z))
+        (λ kind. optional_number_test values.old ≡ Some kind) }
+{
+    let Some(value) = values.next_field() else {
+        return Ok(0);
+    };
+    match decimal(value) {
+        Err(_) => Err(Kind::Number),
+        Ok(z) => Ok(z),
+    }
+}
+
+#[tactic(auto, unfolding(crate::specs::ObjLine::vector))]
+fn vector(values: &mut Fields) -> Result<Vec3, Kind>
+    requires { 3 ≤ length values.old }
+    ensures value { MatchResult result
+        (λ v. (first_kind (coordinate_tests values.old) ≡ None) × (vector values.old ≡ v))
+        (λ kind. first_kind (coordinate_tests values.old) ≡ Some kind) }
+    ensures range { IfOk result (Within 50_000_000) }
+{
+    let x = coordinate(values)?;
+    let y = coordinate(values)?;
+    let z = coordinate(values)?;
+    Ok(Vec3 { x, y, z })
+}
+
+#[tactic(auto, unfolding(crate::specs::ObjLine::uv))]
+fn uv(values: &mut Fields) -> Result<Uv, Kind>
+    requires { 1 ≤ length values.old }
+    ensures { MatchResult result
+        (λ place. (first_kind (number_tests values.old) ≡ None) × (uv values.old ≡ place))
+        (λ kind. first_kind (number_tests values.old) ≡ Some kind) }
+{
+    let u = number(values)?;
+    let v = number_or_0(values)?;
+    Ok(Uv { u, v })
+}
+
+#[tactic(auto, unfolding(crate::specs::ObjLine::vector_tests))]
+/// The place or direction of so many values, after so many of its kind.
+pub fn vector_after(
+    so_far: usize,
+    values: &mut Fields,
+    count: usize,
+) -> Result<Vec3, Kind>
+    requires count { count ≡ length values.old }
+    requires few { so_far ≤ 1_000_000 }
+    ensures value { MatchResult result
+        (λ v. (first_kind (vector_tests so_far values.old) ≡ None) × (vector values.old ≡ v))
+        (λ kind. first_kind (vector_tests so_far values.old) ≡ Some kind) }
+    ensures range { IfOk result (Within 50_000_000) }
+    ensures room { IfOk result (λ _. so_far < 1_000_000) }
+{
+    if count < 3 {
+        return Err(Kind::Words);
+    }
+    let v = vector(values)?;
+    if so_far == MOST_ITEMS {
+        return Err(Kind::Vertices);
+    }
+    Ok(v)
+}
+
+#[tactic(auto, unfolding(crate::specs::ObjLine::uv_tests))]
+/// The texture place of so many values, after so many.
+pub fn uv_after(so_far: usize, values: &mut Fields, count: usize) -> Result<Uv, Kind>
+    requires count { count ≡ length values.old }
+    requires few { so_far ≤ 1_000_000 }
+    ensures value { MatchResult result
+        (λ place. (first_kind (uv_tests so_far values.old) ≡ None) × (uv values.old ≡ place))
+        (λ kind. first_kind (uv_tests so_far values.old) ≡ Some kind) }
+    ensures room { IfOk result (λ _. so_far < 1_000_000) }
+{
+    if count == 0 {
+        return Err(Kind::Words);
+    }
+    let place = uv(values)?;
+    if so_far == MOST_ITEMS {
+        return Err(Kind::Vertices);
+    }
+    Ok(place)
+}

@@ -1,0 +1,12 @@
+-- The numbers of the kinds of fault.
+use Rattle.std.specs.Prelude.{ℕ}
+use Rattle.lc_mtl.specs.declared.kind.Kind.{Kind}
+use Rattle.lc_mtl.specs.declared.kind.Kind.TheVariants as kind
+
+abbrev pub kind_number : Kind → ℕ
+kind_number kind.Number = 1
+kind_number kind.Negative = 2
+kind_number kind.NoMaterial = 3
+kind_number kind.Colour = 4
+kind_number kind.TooMany = 5
+kind_number kind.Name = 6

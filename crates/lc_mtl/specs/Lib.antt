@@ -1,0 +1,12 @@
+pub mod Kinds
+pub mod Materials
+pub mod Settings
+pub mod MtlLine
+pub mod MtlFile
+pub mod Drafts
+pub use Rattle.lc_num.specs.Channels
+pub use Rattle.lc_num.specs.Faults
+pub use Rattle.lc_scan.specs.Lines
+pub use Rattle.lc_scan.specs.Fields
+pub use Rattle.lc_scan.specs.Spoken
+pub use Rattle.lc_scan.specs.Decimal

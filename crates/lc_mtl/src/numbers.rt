@@ -1,0 +1,53 @@
+// The numbers of a line.
+ghost use Rattle.std.specs.Prelude.{◌≡◌, ◌<◌, ◌^◌, Some, None, IfOk, MatchResult};
+ghost use Rattle.lc_mtl.specs.MtlLine.{number_test, units, share, exponent_of};
+
+use crate::kind::Kind;
+use lc_scan::decimal;
+
+// A share of all light.
+const WHOLE_SHARE: u64 = 10_000;
+
+const MOST_EXPONENT: u64 = 1_000;
+
+/// The units of a number that is not below 0.
+fn units(field: &[u8]) -> Result<u64, Kind>
+    ensures value { MatchResult result
+        (λ n. (number_test field.now ≡ None) × (units field.now ≡ n))
+        (λ kind. number_test field.now ≡ Some kind) }
+    ensures range { IfOk result (λ n. n < 2 ^ 63) }
+{
+    match decimal(field) {
+        Err(_) => Err(Kind::Number),
+        Ok(z) => {
+            if z < 0 {
+                Err(Kind::Negative)
+            } else {
+                Ok(z as u64)
+            }
+        }
+    }
+}
+
+/// A share of light, which is at most the whole.
+#[tactic(auto, unfolding(crate::specs::MtlLine::share))]
+pub fn share(field: &[u8]) -> Result<u32, Kind>
+    ensures { MatchResult result
+        (λ n. (number_test field.now ≡ None) × (share field.now ≡ n))
+        (λ kind. number_test field.now ≡ Some kind) }
+{
+    let units = units(field)?;
+    Ok(units.min(WHOLE_SHARE) as u32)
+}
+
+/// An exponent: the nearest whole number to a number of units, halves up, and at most 1000.
+#[tactic(auto, unfolding(crate::specs::MtlLine::exponent_of))]
+pub fn nearest_exponent(field: &[u8]) -> Result<u32, Kind>
+    ensures { MatchResult result
+        (λ n. (number_test field.now ≡ None) × (exponent_of field.now ≡ n))
+        (λ kind. number_test field.now ≡ Some kind) }
+{
+    let units = units(field)?;
+    let nearest = (units + 5_000) / 10_000;
+    Ok(nearest.min(MOST_EXPONENT) as u32)
+}

@@ -1,16 +1,16 @@
 -- How a decimal is measured by its parts.
-use Rattle.std.proofs.Common.{◌≡◌, ℕ, ◌+◌, ◌*◌, ◌^◌, ◌<◌, ◌≤◌, Bool, true, false, ◌||◌, cond, ltb, ◌++◌, length, min, Result, Ok, Err, IfOk, ℤ, refl, sym, ap, subst, ◌∙◌, arith, length-append, inl, inr}
+use Rattle.std.proofs.Common.{◌≡◌, ℕ, ◌+◌, ◌*◌, ◌^◌, ◌<◌, ◌≤◌, Bool, true, false, ◌||◌, cond, ltb, List, ◌++◌, length, min, Result, Ok, Err, IfOk, ℤ, refl, sym, ap, subst, ◌∙◌, arith, length-append, inl, inr}
 use Rattle.std.specs.Int.RustNames.{unsigned_abs}
 use Rattle.std.specs.List.{list_all}
 use Rattle.std.specs.Char.{is_ascii_digit}
 use Rattle.std.specs.Str.Parse.{digits_value, digits_value_after}
 use Rattle.std.proofs.lemmas.Int.{ints}
-use Rattle.std.proofs.lemmas.Bool.{lt-ltb, le-ltb, cases_lt}
+use Rattle.std.proofs.lemmas.Bool.{lt-ltb, le-ltb, cases_lt, false≢true}
 use Rattle.std.proofs.lemmas.List.Folds.{list_all-append}
 use Rattle.lc_scan.specs.declared.fault.NumFault.{NumFault}
-use Rattle.lc_scan.specs.declared.fault.NumFault.TheVariants.{TooLong, Range}
+use Rattle.lc_scan.specs.declared.fault.NumFault.TheVariants.{Form, TooLong, Range}
 use Rattle.lc_scan.specs.Whole.{are_digits}
-use Rattle.lc_scan.specs.Decimal.{Parts, is_decimal, is_exponent, exponent_size, is_too_long, top, bottom, size, nearest, IsNearest, signed, measured}
+use Rattle.lc_scan.specs.Decimal.{Parts, is_decimal, is_exponent, exponent_size, is_too_long, top, bottom, size, nearest, IsNearest, signed, measured, parts_of, decimal_of}
 use Rattle.lc_scan.proofs.DigitLemmas.{both, after_append}
 use Rattle.lc_scan.proofs.UnitLemmas.{ten_pos, nearest_is}
 
@@ -103,3 +103,33 @@ measured-nearest p (Ok z) e =
     let units = units_are (is_too_long p) (ltb (10 ^ 14) (size p)) (signed p.negative (size p)) z (sym e) in
     subst (λ (n : ℕ). IsNearest n (top p) (bottom p)) (sym (signed_size p.negative (size p)) ∙ ap unsigned_abs units) (size-nearest p)
 measured-nearest p (Err fault) e = tt
+
+-- ---- the range of the units
+
+within_by : (a b : Bool) (n : ℕ) (z w : ℤ) → cond a (Err TooLong) (cond b (Err Range) (Ok z)) ≡ Ok w → ltb (10 ^ 14) n ≡ b → n ≤ 10 ^ 14
+within_by true b n z w e i = absurd cc
+within_by false true n z w e i = absurd cc
+within_by false false n z w e i =
+    elim (cases_lt (10 ^ 14) n) [
+      | inl lt ↦ absurd (false≢true (sym i ∙ lt-ltb (10 ^ 14) n lt))
+      | inr le ↦ le
+    ]
+
+measured_within : (p : Parts) (z : ℤ) → measured p ≡ Ok z → unsigned_abs z ≤ 10 ^ 14
+measured_within p z e =
+    let units = units_are (is_too_long p) (ltb (10 ^ 14) (size p)) (signed p.negative (size p)) z e in
+    let small = within_by (is_too_long p) (ltb (10 ^ 14) (size p)) (size p) (signed p.negative (size p)) z e refl in
+    let same : unsigned_abs z ≡ size p = sym (ap unsigned_abs units) ∙ signed_size p.negative (size p) in
+    omega (arith, same, small)
+
+judged_within : (p : Parts) (b : Bool) (z : ℤ) → cond b (measured p) (Err Form) ≡ Ok z → unsigned_abs z ≤ 10 ^ 14
+judged_within p true z e = measured_within p z e
+judged_within p false z e = absurd cc
+
+-- the units of a decimal are at most 10^14 in absolute value
+pub decimal_within : (field : List ℕ) (z : ℤ) → decimal_of field ≡ Ok z → unsigned_abs z ≤ 10 ^ 14
+decimal_within field z e = judged_within (parts_of field) (is_decimal (parts_of field)) z e
+
+pub result_within : (field : List ℕ) (r : Result ℤ NumFault) → r ≡ decimal_of field → IfOk r (λ units. unsigned_abs units ≤ 10 ^ 14)
+result_within field (Ok z) e = decimal_within field z (sym e)
+result_within field (Err fault) e = tt

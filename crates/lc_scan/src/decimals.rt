@@ -224,6 +224,8 @@ pub fn decimal(field: &[u8]) -> Result<i64, NumFault>
     ensures nearest { (s : Spelling) → IsDecimal s → field.now ≡ spelled s →
         IfOk result (λ units. IsNearest (unsigned_abs units) (top (parts s)) (bottom (parts s))) }
 
+    ensures range { IfOk result (λ units. unsigned_abs units ≤ 10 ^ 14) }
+
     // `Form` comes exactly where the field spells no decimal.
     ensures form { IsErrOf result NumFault.Form ↔ ((s : Spelling) → IsDecimal s → field.now ≡ spelled s → ⊥) }
 {

@@ -1,10 +1,11 @@
 -- The vectors of a command are within their range.
 use Rattle.std.proofs.Common.{◌≡◌, ℕ, ◌+◌, ◌≤◌, Bool, true, false, cond, List, Option, Some, None, ℤ, unsigned_abs, nat_lt, refl, arith}
-use Rattle.std.specs.Prelude.{IfSome, codes}
+use Rattle.std.specs.Prelude.{IfSome, Result, Ok, Err, codes}
 use Rattle.std.proofs.lemmas.Bool.Decides.{nat_tests}
 use Rattle.lc_num.specs.Vectors.{Within}
 use Rattle.lc_num.specs.declared.vectors.Vec3.{Vec3}
-use Rattle.lc_light.specs.Numbers.{short_units}
+use Rattle.lc_scan.specs.Decimal.{decimal_of}
+use Rattle.lc_scan.specs.declared.fault.NumFault.{NumFault}
 use Rattle.lc_tool.specs.Words.{Command, probe, in_range, coordinate, vector_of, probe_of, word_at, vector_at, begins, command_of}
 
 abbrev pub IsProper : Option Command → Type 0
@@ -18,9 +19,9 @@ chosen_small : (z : ℤ) (b : Bool) → nat_lt 50_000_000 (unsigned_abs z) ≡ b
 chosen_small z true e = tt
 chosen_small z false e = grind (arith, nat_tests)
 
-range_small : (o : Option ℤ) → IfSome (in_range o) Small
-range_small None = tt
-range_small (Some z) = chosen_small z (nat_lt 50_000_000 (unsigned_abs z)) refl
+range_small : (o : Result ℤ NumFault) → IfSome (in_range o) Small
+range_small (Err e) = tt
+range_small (Ok z) = chosen_small z (nat_lt 50_000_000 (unsigned_abs z)) refl
 
 vector_small : (x y z : Option ℤ) → IfSome x Small → IfSome y Small → IfSome z Small → IfSome (vector_of x y z) (Within 50_000_000)
 vector_small (Some x) (Some y) (Some z) a b c = record { x = a; y = b; z = c }
@@ -40,7 +41,7 @@ chosen_proper false o h = tt
 read_small : (words : List (List ℕ)) (k : ℕ) → IfSome (vector_at words k) (Within 50_000_000)
 read_small words k =
     vector_small (coordinate (word_at words k)) (coordinate (word_at words (k + 1))) (coordinate (word_at words (k + 2)))
-    (range_small (short_units (word_at words k))) (range_small (short_units (word_at words (k + 1)))) (range_small (short_units (word_at words (k + 2))))
+    (range_small (decimal_of (word_at words k))) (range_small (decimal_of (word_at words (k + 1)))) (range_small (decimal_of (word_at words (k + 2))))
 
 pub command_proper : (words : List (List ℕ)) → IsProper (command_of words)
 command_proper words =

@@ -16,7 +16,7 @@ pub use Rattle.lc_desk.specs.Desk
 pub use Rattle.lc_desk.specs.Causes
 pub use Rattle.lc_light.specs.Lights
 pub use Rattle.lc_light.specs.LightFile
-pub use Rattle.lc_light.specs.Numbers
+pub use Rattle.lc_scan.specs.Decimal
 pub use Rattle.lc_terms.specs.Spot
 pub use Rattle.lc_terms.specs.Kind
 pub use Rattle.lc_bound.specs.Omni

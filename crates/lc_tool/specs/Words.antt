@@ -1,9 +1,10 @@
 -- The words of the command line, as a command.
-use Rattle.std.specs.Prelude.{ℕ, ◌+◌, ◌==◌, ◌&&◌, Bool, List, [], length, slice_index_or, Option, Some, None, ℤ, unsigned_abs, nat_lt, if◌then◌else◌, codes, map}
+use Rattle.std.specs.Prelude.{ℕ, ◌+◌, ◌==◌, ◌&&◌, Bool, List, [], length, slice_index_or, Option, Some, None, Result, Ok, Err, ℤ, unsigned_abs, nat_lt, if◌then◌else◌, codes, map}
 use Rattle.std.proofs.Common.{Bor}
 use Rattle.std.specs.Str.{bytes_eq}
 use Rattle.lc_num.specs.declared.vectors.Vec3.{Vec3}
-use Rattle.lc_light.specs.Numbers.{short_units}
+use Rattle.lc_scan.specs.Decimal.{decimal_of}
+use Rattle.lc_scan.specs.declared.fault.NumFault.{NumFault}
 
 -- the words as they are passed
 abbrev pub texts : List (Bor (List ℕ)) → List (List ℕ)
@@ -13,13 +14,13 @@ pub data Command : Type 0 where
   -- the name of a light file, a place, and the direction of a normal
   probe : List ℕ → Vec3 → Vec3 → Command
 
-abbrev pub in_range : Option ℤ → Option ℤ
-in_range None = None
-in_range (Some z) = if nat_lt 50_000_000 (unsigned_abs z) then None else Some z
+abbrev pub in_range : Result ℤ NumFault → Option ℤ
+in_range (Err fault) = None
+in_range (Ok z) = if nat_lt 50_000_000 (unsigned_abs z) then None else Some z
 
--- a number from -5000 to 5000, in units of 1/10000
+-- a decimal from -5000 to 5000, in units of 1/10000
 abbrev pub coordinate : List ℕ → Option ℤ
-coordinate word = in_range (short_units word)
+coordinate word = in_range (decimal_of word)
 
 abbrev pub vector_of : Option ℤ → Option ℤ → Option ℤ → Option Vec3
 vector_of (Some x) (Some y) (Some z) = Some (record { x = x; y = y; z = z })

@@ -4,8 +4,8 @@ ghost use Rattle.lc_tool.specs.Words.{command_of, probe_of, coordinate, vector_o
 ghost use Rattle.lc_num.specs.Vectors.{Within};
 ghost use Rattle.lc_tool.specs.Meant.{meant, IsInRange};
 
-use lc_light::short_number;
 use lc_num::Vec3;
+use lc_scan::decimal;
 
 /// A command.
 #[derive(Clone, Copy)]
@@ -24,11 +24,9 @@ fn coordinate(word: &str) -> Option<i64>
     ensures value { result ≡ coordinate word.now }
     ensures within { IfSome result (λ z. unsigned_abs z ≤ 50_000_000) }
 {
-    let number = short_number(word.as_bytes())?;
-    if number.unsigned_abs() > MOST {
-        None
-    } else {
-        Some(number)
+    match decimal(word.as_bytes()) {
+        Ok(number) if number.unsigned_abs() <= MOST => Some(number),
+        _ => None,
     }
 }
 

@@ -50,8 +50,10 @@ index_by_tests given i false false e f h = by_side i.back refl
   where
     small : i.size ≤ given
     small = ltb-false given i.size f
+
     some : i.size ≢ 0
     some = λ z. absurd cc
+
     by_side : (back : Bool) → i.back ≡ back → cond back (given - i.size) (i.size - 1) < given
     by_side true b = omega (arith, small, some)
     by_side false b = omega (arith, small, some)

@@ -71,7 +71,7 @@ start given name (v ∷ w ∷ vs) second left before first previous valid some e
     record {
       tests_are = corner_passed given (v ∷ w ∷ vs) (w ∷ vs) v refl a.0 ∙ corner_passed given (w ∷ vs) vs w refl tests ∙ ap (λ (ws : List (List ℕ)). first_kind (corners_tests given ws)) (sym same);
       faces_are = ap (λ (fs : List Face). before ++ fs)
-      (fan_of_three given name (v ∷ w ∷ vs) vs v w refl ∙ ap (λ (x : Corner). fan_from given name x (corner_of given w) vs) a.1 ∙ ap (λ (x : Corner). fan_from given name first x vs) is
+          (fan_of_three given name (v ∷ w ∷ vs) vs v w refl ∙ ap (λ (x : Corner). fan_from given name x (corner_of given w) vs) a.1 ∙ ap (λ (x : Corner). fan_from given name first x vs) is
           ∙ ap (λ (ws : List (List ℕ)). fan_from given name first previous ws) (sym same));
       first_in_range = rw (← a.1) (corner_valid given v valid a.0).place;
       previous_in_range = rw (← is) (corner_valid given w valid tests).place;
@@ -90,7 +90,7 @@ next_corner given name whole before first previous next left later held more v v
     record {
       tests_are = h.tests_are ∙ corner_passed given left later v e a.0;
       faces_are = h.faces_are ∙ ap (λ (fs : List Face). held ++ fs) (one_face_more given name first previous left later v next e a.1)
-      ∙ sym (append_assoc held one (fan_from given name first next later)) ∙ ap (λ (fs : List Face). fs ++ fan_from given name first next later) (sym m);
+          ∙ sym (append_assoc held one (fan_from given name first next later)) ∙ ap (λ (fs : List Face). fs ++ fan_from given name first next later) (sym m);
       first_in_range = h.first_in_range;
       previous_in_range = rw (← a.1) (corner_valid given v valid a.0).place;
     }

@@ -117,14 +117,14 @@ adds_a_line ls l old new a h =
     let used : new.used ≡ names (ls ++ l ∷ []) = a.used ∙ ap (λ (ns : List (List ℕ)). insert_all bytes_eq ns (uses_by (key l.bytes) l.bytes)) h.used_are ∙ sym (uses_of_one_more ls l) in
     record {
       tables_are = tables_of_one_more ls l new.tables (a.places ∙ ap (λ (t : Tables). t.places ++ places_by (key l.bytes) (values l.bytes)) h.tables_are)
-      (a.uvs ∙ ap (λ (t : Tables). t.uvs ++ uvs_by (key l.bytes) (values l.bytes)) h.tables_are) (a.normals ∙ ap (λ (t : Tables). t.normals ++ normals_by (key l.bytes) (values l.bytes)) h.tables_are);
+          (a.uvs ∙ ap (λ (t : Tables). t.uvs ++ uvs_by (key l.bytes) (values l.bytes)) h.tables_are) (a.normals ∙ ap (λ (t : Tables). t.normals ++ normals_by (key l.bytes) (values l.bytes)) h.tables_are);
       triangles_are = a.triangles ∙ ap (λ n. n + triangles_by (key l.bytes) (values l.bytes)) h.triangles_are ∙ sym (triangles_of_one_more ls l);
       faces_are = a.faces ∙ ap (λ (fs : List Face). fs ++ faces_by old.tables old.name (key l.bytes) (values l.bytes)) h.faces_are
-      ∙ ap (λ (t : Tables). faces_from [] ls ++ faces_by t old.name (key l.bytes) (values l.bytes)) h.tables_are
-      ∙ ap (λ (n : ℕ). faces_from [] ls ++ faces_by (tables ls) n (key l.bytes) (values l.bytes)) h.name_is ∙ sym (faces_of_one_more ls l);
+          ∙ ap (λ (t : Tables). faces_from [] ls ++ faces_by t old.name (key l.bytes) (values l.bytes)) h.tables_are
+          ∙ ap (λ (n : ℕ). faces_from [] ls ++ faces_by (tables ls) n (key l.bytes) (values l.bytes)) h.name_is ∙ sym (faces_of_one_more ls l);
       used_are = used;
       name_is = a.name ∙ ap (λ (n : ℕ). number_after n new.used (last_or None (uses_by (key l.bytes) l.bytes))) h.name_is
-      ∙ ap (λ (ns : List (List ℕ)). number_after (in_force ls) ns (last_or None (uses_by (key l.bytes) l.bytes))) used ∙ sym (number_of_one_more ls l);
+          ∙ ap (λ (ns : List (List ℕ)). number_after (in_force ls) ns (last_or None (uses_by (key l.bytes) l.bytes))) used ∙ sym (number_of_one_more ls l);
       named_are = a.named ∙ ap (λ (ns : List (List ℕ)). insert_all bytes_eq ns (libraries_by (key l.bytes) (values l.bytes))) h.named_are ∙ sym (libs_of_one_more ls l);
     }
 

@@ -30,7 +30,7 @@ fn vector_at(index: Index, given: &[Vec3]) -> Result<Vec3, Kind>
 fn uv_at(index: Option<Index>, given: &[Uv]) -> Result<Option<Uv>, Kind>
     ensures { MatchResult result
         (λ place. (optional_test (length given.now) index ≡ None)
-            × (option_map (λ i. slice_index_or given.now (place_of (length given.now) i) no_uv) index ≡ place))
+        × (option_map (λ i. slice_index_or given.now (place_of (length given.now) i) no_uv) index ≡ place))
         (λ kind. optional_test (length given.now) index ≡ Some kind) }
 {
     let Some(index) = index else {
@@ -43,7 +43,7 @@ fn uv_at(index: Option<Index>, given: &[Uv]) -> Result<Option<Uv>, Kind>
 fn normal_at(index: Option<Index>, given: &[Vec3]) -> Result<Option<Vec3>, Kind>
     ensures { MatchResult result
         (λ normal. (optional_test (length given.now) index ≡ None)
-            × (option_map (λ i. slice_index_or given.now (place_of (length given.now) i) zero_vector) index ≡ normal))
+        × (option_map (λ i. slice_index_or given.now (place_of (length given.now) i) zero_vector) index ≡ normal))
         (λ kind. optional_test (length given.now) index ≡ Some kind) }
 {
     let Some(index) = index else {

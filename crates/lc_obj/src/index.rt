@@ -93,12 +93,20 @@ impl Indices {
         let (place, rest) = first_part(corner);
         let place = Index::of(place)?;
         let Some(rest) = rest else {
-            return Some(Indices { place, uv: None, normal: None });
+            return Some(Indices {
+                place,
+                uv: None,
+                normal: None,
+            });
         };
         let (uv, rest) = first_part(rest);
         let Some(rest) = rest else {
             let uv = Some(Index::of(uv)?);
-            return Some(Indices { place, uv, normal: None });
+            return Some(Indices {
+                place,
+                uv,
+                normal: None,
+            });
         };
         let (normal, rest) = first_part(rest);
         let None = rest else {
@@ -106,7 +114,11 @@ impl Indices {
         };
         let normal = Some(Index::of(normal)?);
         if uv.is_empty() {
-            return Some(Indices { place, uv: None, normal });
+            return Some(Indices {
+                place,
+                uv: None,
+                normal,
+            });
         }
         let uv = Some(Index::of(uv)?);
         Some(Indices { place, uv, normal })

@@ -30,12 +30,7 @@ pub struct Reading<'a> {
     pub named: Uses<'a>,
 }
 
-fn add_name(
-    alloc: Global,
-    names: &mut List<Text>,
-    name: &[u8],
-    is_new: bool,
-) -> Result<(), Memory>
+fn add_name(alloc: Global, names: &mut List<Text>, name: &[u8], is_new: bool) -> Result<(), Memory>
     ensures { OnOk result (names.new ≡ (if is_new then names.old ++ name.now ∷ [] else names.old)) }
 {
     if is_new {

@@ -19,6 +19,10 @@ fn a_fourth_line(rt: HostRuntime) {
         (b"v 0 0 0\nv 1 0 0\nv 0 1 0\nv 0 0", 2),
     ] {
         assert!(rt; text.len() < 100);
-        assert_eq!(rt; read_obj(rt.alloc(), text).err(), Some(ObjStop::Fault { line: 4, kind }), "at {text:?}");
+        assert_eq!(rt;
+            read_obj(rt.alloc(), text).err(),
+            Some(ObjStop::Fault { line: 4, kind }),
+            "at {text:?}"
+        );
     }
 }

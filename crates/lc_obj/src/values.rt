@@ -96,11 +96,7 @@ fn uv(values: &mut Fields) -> Result<Uv, Kind>
 
 #[tactic(auto, unfolding(crate::specs::ObjLine::vector_tests))]
 /// The place or direction of so many values, after so many of its kind.
-pub fn vector_after(
-    so_far: usize,
-    values: &mut Fields,
-    count: usize,
-) -> Result<Vec3, Kind>
+pub fn vector_after(so_far: usize, values: &mut Fields, count: usize) -> Result<Vec3, Kind>
     requires count { count ≡ length values.old }
     requires few { so_far ≤ 1_000_000 }
     ensures value { MatchResult result

@@ -19,7 +19,7 @@ returns-in_err-previous-clause-fault c =
     let some : 0 < length ws = omega (arith, ap length c.in_ok-first.ensures.rest, length-drop 1 vs) in
     rw (p.1, p.2)
     (corner_passed c.args.given.now vs ws (field 0 vs) (first_of vs ws (omega arith) c.in_ok-first.ensures.rest) c.in_ok-first.ensures.value.0
-        ∙ corner_wrong c.args.given.now ws c.corner-2.new.values (field 0 ws) _ (first_of ws c.corner-2.new.values some c.in_err-previous.ensures.rest) c.in_err-previous.ensures.value)
+    ∙ corner_wrong c.args.given.now ws c.corner-2.new.values (field 0 ws) _ (first_of ws c.corner-2.new.values some c.in_err-previous.ensures.rest) c.in_err-previous.ensures.value)
 
 pub loop-value-init : goal.loop-value-init
 loop-value-init c =

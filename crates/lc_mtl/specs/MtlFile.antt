@@ -15,11 +15,13 @@ use Rattle.lc_mtl.specs.declared.material.Material.{Material}
 use Rattle.lc_mtl.specs.declared.stop.MtlStop.{MtlStop}
 use Rattle.lc_mtl.specs.declared.stop.MtlStop.TheVariants as stop
 
+-- what a line says, if anything, begins a material
 abbrev pub is_begin : Option Entry → Bool
 is_begin None = false
 is_begin (Some entry.Begin) = true
 is_begin (Some (entry.Set setting)) = false
 
+-- what a line says of the material in force, if it does
 abbrev pub setting_of : Option Entry → Option Setting
 setting_of None = None
 setting_of (Some entry.Begin) = None
@@ -29,7 +31,7 @@ setting_of (Some (entry.Set setting)) = Some setting
 abbrev pub begins : Line → Bool
 begins l = is_begin (entry_of (fields l.bytes))
 
--- what lines say of the material in force
+-- what these lines say of the material in force, in their order
 abbrev pub settings : List Line → List Setting
 settings ls = filter_map (λ (l : Line). setting_of (entry_of (fields l.bytes))) ls
 

@@ -15,6 +15,7 @@ use Rattle.lc_mtl.specs.declared.kind.Kind.TheVariants as kind
 
 -- ---- what a line says: its keyword is the first field, its values are the others
 
+-- lines of other keywords are passed over
 unfoldable pub keyword_of : List ℕ → Option Keyword
 keyword_of word =
     if bytes_eq word (codes "newmtl")
@@ -50,13 +51,14 @@ abbrev pub exponent : List (List ℕ) → ℕ
 exponent [] = 0
 exponent (value ∷ more) = exponent_of value
 
+-- what the values after a keyword say
 abbrev pub entry_by : Keyword → List (List ℕ) → Entry
 entry_by keyword.Material values = entry.Begin
 entry_by keyword.Diffuse values = entry.Set (setting.Diffuse (colour values))
 entry_by keyword.Specular values = entry.Set (setting.Specular (colour values))
 entry_by keyword.Exponent values = entry.Set (setting.Exponent (exponent values))
 
--- what the fields of a line without a fault say
+-- what a line of these fields says, if anything, where it has no fault
 unfoldable pub entry_of : List (List ℕ) → Option Entry
 entry_of [] = None
 entry_of (word ∷ values) = option_map (λ key. entry_by key values) (keyword_of word)
@@ -79,12 +81,14 @@ number_test value = units_test (decimal_of value)
 abbrev pub form_test : List ℕ → Option Kind
 form_test value = if bytes_eq value (codes "spectral") || bytes_eq value (codes "xyz") then Some kind.Colour else None
 
+-- one number or at least three, each from the left
 abbrev pub colour_tests : List (List ℕ) → List (Option Kind)
 colour_tests [] = Some kind.Colour ∷ []
 colour_tests (all ∷ []) = form_test all ∷ number_test all ∷ []
 colour_tests (r ∷ g ∷ []) = Some kind.Colour ∷ []
 colour_tests (r ∷ g ∷ b ∷ more) = form_test r ∷ number_test r ∷ number_test g ∷ number_test b ∷ []
 
+-- a number at least
 abbrev pub exponent_tests : List (List ℕ) → List (Option Kind)
 exponent_tests [] = Some kind.Number ∷ []
 exponent_tests (value ∷ more) = number_test value ∷ []

@@ -6,16 +6,19 @@ use Rattle.lc_mtl.specs.declared.entry.Setting.{Setting}
 use Rattle.lc_mtl.specs.declared.entry.Setting.TheVariants as setting
 use Rattle.lc_mtl.specs.declared.material.Material.{Material}
 
+-- the diffuse share, where it is said
 abbrev pub diffuse : Setting → Option Colour
 diffuse (setting.Diffuse kd) = Some kd
 diffuse (setting.Specular ks) = None
 diffuse (setting.Exponent ns) = None
 
+-- the specular share, where it is said
 abbrev pub specular : Setting → Option Colour
 specular (setting.Diffuse kd) = None
 specular (setting.Specular ks) = Some ks
 specular (setting.Exponent ns) = None
 
+-- the exponent, where it is said
 abbrev pub exponent : Setting → Option ℕ
 exponent (setting.Diffuse kd) = None
 exponent (setting.Specular ks) = None
@@ -29,7 +32,7 @@ grey share = record { r = share; g = share; b = share }
 abbrev pub last_given : {X : Type 0} → X → List X → X
 last_given otherwise given = unwrap_or (last_or None given) otherwise
 
--- the material of which these settings are said: of each kind the last one holds
+-- the material of this name of which these settings are said: the last of each kind holds
 abbrev pub material : List ℕ → List Setting → Material
 material name said = record {
   name = name;

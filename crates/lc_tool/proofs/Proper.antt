@@ -23,6 +23,10 @@ range_small : (o : Result ℤ NumFault) → IfSome (in_range o) Small
 range_small (Err e) = tt
 range_small (Ok z) = chosen_small z (nat_lt 50_000_000 (unsigned_abs z)) refl
 
+word_small : (word : List ℕ) → IfSome (coordinate word) Small
+unfolding coordinate
+word_small word = range_small (decimal_of word)
+
 vector_small : (x y z : Option ℤ) → IfSome x Small → IfSome y Small → IfSome z Small → IfSome (vector_of x y z) (Within 50_000_000)
 vector_small (Some x) (Some y) (Some z) a b c = record { x = a; y = b; z = c }
 vector_small None y z a b c = tt
@@ -41,7 +45,7 @@ chosen_proper false o h = tt
 read_small : (words : List (List ℕ)) (k : ℕ) → IfSome (vector_at words k) (Within 50_000_000)
 read_small words k =
     vector_small (coordinate (word_at words k)) (coordinate (word_at words (k + 1))) (coordinate (word_at words (k + 2)))
-    (range_small (decimal_of (word_at words k))) (range_small (decimal_of (word_at words (k + 1)))) (range_small (decimal_of (word_at words (k + 2))))
+    (word_small (word_at words k)) (word_small (word_at words (k + 1))) (word_small (word_at words (k + 2)))
 
 pub command_proper : (words : List (List ℕ)) → IsProper (command_of words)
 command_proper words =

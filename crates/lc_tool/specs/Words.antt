@@ -19,7 +19,7 @@ in_range (Err fault) = None
 in_range (Ok z) = if nat_lt 50_000_000 (unsigned_abs z) then None else Some z
 
 -- a decimal from -5000 to 5000, in units of 1/10000
-abbrev pub coordinate : List ℕ → Option ℤ
+unfoldable pub coordinate : List ℕ → Option ℤ
 coordinate word = in_range (decimal_of word)
 
 abbrev pub vector_of : Option ℤ → Option ℤ → Option ℤ → Option Vec3

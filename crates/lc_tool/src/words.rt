@@ -20,6 +20,7 @@ pub enum Command<'a> {
 
 const MOST: u64 = 50_000_000;
 
+#[tactic(auto, unfolding(crate::specs::Words::coordinate))]
 fn coordinate(word: &str) -> Option<i64>
     ensures value { result ≡ coordinate word.now }
     ensures within { IfSome result (λ z. unsigned_abs z ≤ 50_000_000) }

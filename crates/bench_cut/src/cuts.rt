@@ -4,6 +4,7 @@ ghost use Rattle.lc_cut.specs.Forest.{light_count, lights_of};
 
 use crate::inputs::Random;
 use lc_cut::{Ask, Bench, Forest, cut};
+use lc_hier::Plain;
 use lc_num::Steps;
 use std::marker::Brand;
 use std::sync::ledger::{Blank, Ledger};
@@ -25,6 +26,7 @@ fn add_cut<L: Ledger>(
     sums: Sums,
     bench: &mut Bench,
     forest: &Forest,
+    scene: &Plain,
     random: &mut Random,
     blank: Blank,
 ) -> Sums
@@ -36,7 +38,14 @@ fn add_cut<L: Ledger>(
     ensures { bench.new ≡ bench.old }
 {
     let spot = random.spot();
-    let answer = cut(bench, forest, &spot, ASK, &mut Steps::<L>::start(blank));
+    let answer = cut(
+        bench,
+        forest,
+        &spot,
+        scene,
+        ASK,
+        &mut Steps::<L>::start(blank),
+    );
     Sums {
         evals: sums.evals.wrapping_add(answer.evals as u64),
         light: sums
@@ -47,14 +56,20 @@ fn add_cut<L: Ledger>(
 }
 
 /// Adds the cuts at so many spots.
-pub fn add_cuts(bench: &mut Bench, forest: &Forest, random: &mut Random, spots: u32) -> Sums
+pub fn add_cuts(
+    bench: &mut Bench,
+    forest: &Forest,
+    scene: &Plain,
+    random: &mut Random,
+    spots: u32,
+) -> Sums
     requires bench { bench.old ≡ 1000 }
     requires few { light_count (lights_of forest.now) ≤ 65536 }
     ensures { bench.new ≡ bench.old }
 {
     let mut sums = Sums { evals: 0, light: 0 };
     for _ in 0..spots {
-        sums = add_cut::<Brand>(sums, bench, forest, random, Blank::new(1));
+        sums = add_cut::<Brand>(sums, bench, forest, scene, random, Blank::new(1));
     }
     sums
 }

@@ -1,4 +1,4 @@
-//! Cuts through the trees of seeded lights of three kinds at seeded spots, and prints how many lights were evaluated and a checksum.
+//! Cuts through the trees of seeded lights of three kinds at seeded spots, with no triangle between them, and prints how many lights were evaluated and a checksum.
 //!
 //! The arguments are the number of lights, the number of spots and, for the nanoseconds, the word `time`.
 #![tactic(auto)]
@@ -9,6 +9,8 @@ mod inputs;
 use crate::inputs::Random;
 use anyhow::Result;
 use lc_cut::{Bench, Forest};
+use lc_hier::Plain;
+use lc_num::List;
 use std::env;
 use std::time::Instant;
 
@@ -49,9 +51,10 @@ fn main(rt: HostRuntime) -> Result<()> {
     let forest = Forest::build(rt.alloc(), &lights, 0)?;
     let built = start.elapsed(&rt)?.as_nanos();
     let mut bench = Bench::new(rt.alloc(), 1000)?;
+    let scene = Plain::new(List::new(rt.alloc()));
 
     let start = Instant::now(&rt)?;
-    let sums = cuts::add_cuts(&mut bench, &forest, &mut random, order.spots);
+    let sums = cuts::add_cuts(&mut bench, &forest, &scene, &mut random, order.spots);
     let cut = start.elapsed(&rt)?.as_nanos();
     println!(rt; "evaluations {} checksum {}", sums.evals, sums.light)?;
     if order.timed {

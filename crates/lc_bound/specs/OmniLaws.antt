@@ -10,6 +10,7 @@ use Rattle.lc_light.specs.declared.lights.Omni.{Omni}
 use Rattle.lc_terms.specs.Channels.{IsAtMost}
 use Rattle.lc_terms.specs.Factor.{factor, material}
 use Rattle.lc_terms.specs.Kind.{Laws}
+use Rattle.lc_terms.specs.SeenLaws.{factor-below}
 use Rattle.lc_terms.specs.Spot.{IsSpot}
 use Rattle.lc_terms.specs.declared.spot.Spot.{Spot}
 use Rattle.lc_bound.specs.Hull.{box_from}
@@ -43,9 +44,9 @@ reach_within spot c hs hc =
     (falloff-small (near2 spot.x c.box))
     (material_top-small spot (box_from spot.x c.box) (near2 spot.x c.box) hs)
 
--- no light of the box has a greater factor than the bound at the box's least distance
-dominates : (spot : Spot) (c : Clump) (light : Omni) → IsSpot spot → IsClump c → IsOmni light → Covers c light → IsAtMost (reach spot c) (factor spot (toward spot.x light) (geometry spot.x light))
-dominates spot c light hs hc hl inside =
+-- no light of the box that is seen has a greater factor than the bound at the box's least distance
+seen_dominates : (spot : Spot) (c : Clump) (light : Omni) → IsSpot spot → IsClump c → IsOmni light → Covers c light → IsAtMost (reach spot c) (factor spot (toward spot.x light) (geometry spot.x light))
+seen_dominates spot c light hs hc hl inside =
     let near = near2-least spot.x c.box light.place inside in
     times-rises (geometry spot.x light) (falloff (near2 spot.x c.box)) (material spot (toward spot.x light)) (material_top spot (box_from spot.x c.box) (near2 spot.x c.box))
     (falloff-falls (near2 spot.x c.box) (square (difference light.place spot.x)) near)
@@ -70,5 +71,5 @@ omni_laws = record {
   total_within = λ c h. h.total;
   reach_within = reach_within;
   top_is = λ spot c hs hc. refl;
-  dominates = dominates;
+  dominates = λ ts spot c light hs hc hl h. factor-below omni_meaning ts spot light (reach spot c) (seen_dominates spot c light hs hc hl h);
 }

@@ -13,6 +13,7 @@ use Rattle.lc_light.specs.declared.lights.Oriented.{Oriented}
 use Rattle.lc_terms.specs.Channels.{IsAtMost}
 use Rattle.lc_terms.specs.Factor.{factor, material}
 use Rattle.lc_terms.specs.Kind.{Laws}
+use Rattle.lc_terms.specs.SeenLaws.{factor-below}
 use Rattle.lc_terms.specs.Spot.{IsSpot}
 use Rattle.lc_terms.specs.declared.spot.Spot.{Spot}
 use Rattle.lc_bound.specs.Hull.{box_from, box_to}
@@ -84,9 +85,9 @@ geometry_below x c light h near =
     (cos16_below_emit_top light.normal (difference x light.place) c.normals c.least (box_to x c.box) (near2 x c.box) h.normal (box_to-inside x c.box light.place h.place) h.least (rw (square-turned x light.place) near))
     (falloff-falls (near2 x c.box) (square (difference light.place x)) near)
 
--- no light that a clump covers has a greater factor than the clump's bound
-dominates : (spot : Spot) (c : Clump) (light : Oriented) → Covers c light → IsAtMost (reach spot c) (factor spot (toward spot.x light) (geometry spot.x light))
-dominates spot c light h =
+-- no light that a clump covers and that is seen has a greater factor than the clump's bound
+seen_dominates : (spot : Spot) (c : Clump) (light : Oriented) → Covers c light → IsAtMost (reach spot c) (factor spot (toward spot.x light) (geometry spot.x light))
+seen_dominates spot c light h =
     let near = near2-least spot.x c.box light.place h.place in
     times-rises (geometry spot.x light) (geometry_top spot.x c) (material spot (toward spot.x light)) (material_top spot (box_from spot.x c.box) (near2 spot.x c.box))
     (geometry_below spot.x c light h near)
@@ -111,5 +112,5 @@ oriented_laws = record {
   total_within = λ c h. h.total;
   reach_within = λ spot c hs hc. reach_within spot c hs;
   top_is = λ spot c hs hc. refl;
-  dominates = λ spot c light hs hc hl h. dominates spot c light h;
+  dominates = λ ts spot c light hs hc hl h. factor-below oriented_meaning ts spot light (reach spot c) (seen_dominates spot c light h);
 }

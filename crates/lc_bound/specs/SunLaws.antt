@@ -11,6 +11,7 @@ use Rattle.lc_light.specs.declared.lights.Sun.{Sun}
 use Rattle.lc_terms.specs.Channels.{IsAtMost}
 use Rattle.lc_terms.specs.Factor.{factor, material}
 use Rattle.lc_terms.specs.Kind.{Laws}
+use Rattle.lc_terms.specs.SeenLaws.{factor-below}
 use Rattle.lc_terms.specs.Spot.{IsSpot}
 use Rattle.lc_terms.specs.declared.spot.Spot.{Spot}
 use Rattle.lc_bound.specs.Reach.{material_top}
@@ -53,9 +54,9 @@ join_covers a b light (inr h) = record { inside = hull-inside a.box b.box light.
 reach_within : (spot : Spot) (c : Clump) → IsSpot spot → IsClump c → IsRgbWithin (20_000 * 65_536 * 10 ^ 13) (reach spot c)
 reach_within spot c hs hc = times-small (10 ^ 9) (material_top spot c.box c.least) (omega arith) (material_top-small spot c.box c.least hs)
 
--- no sun of the box has a greater factor than the bound over the box
-dominates : (spot : Spot) (c : Clump) (light : Sun) → IsSpot spot → IsClump c → IsSun light → Covers c light → IsAtMost (reach spot c) (factor spot (toward spot.x light) (geometry spot.x light))
-dominates spot c light hs hc hl covered =
+-- no sun of the box that is seen has a greater factor than the bound over the box
+seen_dominates : (spot : Spot) (c : Clump) (light : Sun) → IsSpot spot → IsClump c → IsSun light → Covers c light → IsAtMost (reach spot c) (factor spot (toward spot.x light) (geometry spot.x light))
+seen_dominates spot c light hs hc hl covered =
     times-rises (10 ^ 9) (10 ^ 9) (material spot light.toward) (material_top spot c.box c.least) (le_refl (10 ^ 9))
     (material-below spot c.box c.least light.toward covered.inside covered.long)
 
@@ -78,5 +79,5 @@ sun_laws = record {
   total_within = λ c h. h.total;
   reach_within = reach_within;
   top_is = λ spot c hs hc. refl;
-  dominates = dominates;
+  dominates = λ ts spot c light hs hc hl h. factor-below sun_meaning ts spot light (reach spot c) (seen_dominates spot c light hs hc hl h);
 }

@@ -6,6 +6,7 @@ use Rattle.std.proofs.lemmas.List.Elements.{All-head, All-tail, All-weaker, All-
 use Rattle.lc_num.specs.Channels.{IsRgbWithin, IsPowerWithin}
 use Rattle.lc_num.specs.declared.channels.Rgb.{Rgb}
 use Rattle.lc_num.specs.declared.channels.Power.{Power}
+use Rattle.lc_geom.specs.declared.triangle.Tri.{Tri}
 use Rattle.lc_terms.specs.Channels.{by_power, power_plus, IsAtMost}
 use Rattle.lc_terms.specs.Kind.{Meaning, Laws, factor_of}
 use Rattle.lc_terms.specs.Spot.{IsSpot}
@@ -49,41 +50,41 @@ module _ {L C : Type 0} where
   power_sum-one m l =
       powers _ _ _ _ _ _ (omega (arith, sum_by-cons (λ k. (m.power k).r) l [])) (omega (arith, sum_by-cons (λ k. (m.power k).g) l [])) (omega (arith, sum_by-cons (λ k. (m.power k).b) l []))
 
-  pub leaves_rated : (m : Meaning L C) (spot : Spot) (t : Node L) → rates.leaf_count (rated m spot t) ≡ leaf_count t
-  leaves_rated m spot (leaf n l) = refl
-  leaves_rated m spot (fork n l a b) = omega (arith, leaves_rated m spot a, leaves_rated m spot b)
+  pub leaves_rated : (m : Meaning L C) (ts : List Tri) (spot : Spot) (t : Node L) → rates.leaf_count (rated m ts spot t) ≡ leaf_count t
+  leaves_rated m ts spot (leaf n l) = refl
+  leaves_rated m ts spot (fork n l a b) = omega (arith, leaves_rated m ts spot a, leaves_rated m ts spot b)
 
   -- the full sum of a rated tree is that of its members
-  pub full_members : (c : Rgb → ℕ) (m : Meaning L C) (spot : Spot) (t : Node L) → full_of c (rated m spot t) ≡ sum_by (λ l. c (contribution m spot l)) (members t)
-  full_members c m spot (leaf n l) =
-      let e : c (by_power (factor_of m spot l) (power_sum m (l ∷ []))) ≡ c (by_power (factor_of m spot l) (m.power l)) = ap (λ p. c (by_power (factor_of m spot l) p)) (power_sum-one m l) in
-      omega (arith, e, sum_by-cons (λ k. c (contribution m spot k)) l [])
-  full_members c m spot (fork n l a b) =
-      omega (arith, full_members c m spot a, full_members c m spot b, sum_by-append (λ k. c (contribution m spot k)) (members a) (members b))
+  pub full_members : (c : Rgb → ℕ) (m : Meaning L C) (ts : List Tri) (spot : Spot) (t : Node L) → full_of c (rated m ts spot t) ≡ sum_by (λ l. c (contribution m ts spot l)) (members t)
+  full_members c m ts spot (leaf n l) =
+      let e : c (by_power (factor_of m ts spot l) (power_sum m (l ∷ []))) ≡ c (by_power (factor_of m ts spot l) (m.power l)) = ap (λ p. c (by_power (factor_of m ts spot l) p)) (power_sum-one m l) in
+      omega (arith, e, sum_by-cons (λ k. c (contribution m ts spot k)) l [])
+  full_members c m ts spot (fork n l a b) =
+      omega (arith, full_members c m ts spot a, full_members c m ts spot b, sum_by-append (λ k. c (contribution m ts spot k)) (members a) (members b))
 
-module _ {L C : Type 0} (c : Rgb → ℕ) (w : Power → ℕ) (ch : IsChannel c w) (m : Meaning L C) (spot : Spot) where
+module _ {L C : Type 0} (c : Rgb → ℕ) (w : Power → ℕ) (ch : IsChannel c w) (m : Meaning L C) (ts : List Tri) (spot : Spot) where
   -- contributions whose factors are at most so much are together at most that times the summed intensity
-  contributions_below : (most : ℕ) (ls : List L) → All (λ l. c (factor_of m spot l) ≤ most) ls → sum_by (λ l. c (contribution m spot l)) ls ≤ most * w (power_sum m ls)
+  contributions_below : (most : ℕ) (ls : List L) → All (λ l. c (factor_of m ts spot l) ≤ most) ls → sum_by (λ l. c (contribution m ts spot l)) ls ≤ most * w (power_sum m ls)
   contributions_below most [] h = omega arith
   contributions_below most (l ∷ ls) h =
-      let le : c (factor_of m spot l) ≤ most = All-head (λ k. c (factor_of m spot k) ≤ most) l ls h in
-      let first : c (factor_of m spot l) * w (m.power l) ≤ most * w (m.power l) = mul-le-mul_right (w (m.power l)) le in
-      let rest : sum_by (λ k. c (contribution m spot k)) ls ≤ most * w (power_sum m ls) = contributions_below most ls (All-tail (λ k. c (factor_of m spot k) ≤ most) l ls h) in
-      let here : c (contribution m spot l) ≡ c (factor_of m spot l) * w (m.power l) = ch.by (factor_of m spot l) (m.power l) in
+      let le : c (factor_of m ts spot l) ≤ most = All-head (λ k. c (factor_of m ts spot k) ≤ most) l ls h in
+      let first : c (factor_of m ts spot l) * w (m.power l) ≤ most * w (m.power l) = mul-le-mul_right (w (m.power l)) le in
+      let rest : sum_by (λ k. c (contribution m ts spot k)) ls ≤ most * w (power_sum m ls) = contributions_below most ls (All-tail (λ k. c (factor_of m ts spot k) ≤ most) l ls h) in
+      let here : c (contribution m ts spot l) ≡ c (factor_of m ts spot l) * w (m.power l) = ch.by (factor_of m ts spot l) (m.power l) in
       let sums : w (power_sum m (l ∷ ls)) ≡ w (m.power l) + w (power_sum m ls) = ap w (power_sum-cons m l ls) ∙ ch.plus (m.power l) (power_sum m ls) in
-      rw sums (omega (arith, first, rest, here, sum_by-cons (λ k. c (contribution m spot k)) l ls))
+      rw sums (omega (arith, first, rest, here, sum_by-cons (λ k. c (contribution m ts spot k)) l ls))
 
   module _ (laws : Laws m) (hs : IsSpot spot) (lights : List L) (valid : All m.valid_light lights) where
     -- no light below a node passes the reach of its clump
-    factors_below : (t : Node L) → Holds m t (clump_of m.one m.join t) → All (λ l. c (factor_of m spot l) ≤ c (m.reach spot (clump_of m.one m.join t))) (members t)
+    factors_below : (t : Node L) → Holds m t (clump_of m.one m.join t) → All (λ l. c (factor_of m ts spot l) ≤ c (m.reach spot (clump_of m.one m.join t))) (members t)
     factors_below t h =
         let k : C = clump_of m.one m.join t in
-        All-weaker (λ l. m.valid_light l × m.covers k l) (λ l. c (factor_of m spot l) ≤ c (m.reach spot k))
-        (λ l q. ch.below (m.reach spot k) (factor_of m spot l) (laws.dominates spot k l hs h.valid q.0 q.1)) (members t) h.covers
+        All-weaker (λ l. m.valid_light l × m.covers k l) (λ l. c (factor_of m ts spot l) ≤ c (m.reach spot k))
+        (λ l q. ch.below (m.reach spot k) (factor_of m ts spot l) (laws.dominates ts spot k l hs h.valid q.0 q.1)) (members t) h.covers
 
-    leading_below : (t : Node L) → IsLed t → Holds m t (clump_of m.one m.join t) → c (factor_of m spot (leader t)) ≤ c (m.reach spot (clump_of m.one m.join t))
+    leading_below : (t : Node L) → IsLed t → Holds m t (clump_of m.one m.join t) → c (factor_of m ts spot (leader t)) ≤ c (m.reach spot (clump_of m.one m.join t))
     leading_below t led h =
-        All-contains (λ l. c (factor_of m spot l) ≤ c (m.reach spot (clump_of m.one m.join t))) (members t) (leader t) (factors_below t h) (leads_member t led)
+        All-contains (λ l. c (factor_of m ts spot l) ≤ c (m.reach spot (clump_of m.one m.join t))) (members t) (leader t) (factors_below t h) (leads_member t led)
 
     top_is : (t : Node L) → Holds m t (clump_of m.one m.join t) → c (m.top spot (clump_of m.one m.join t)) ≡ c (m.reach spot (clump_of m.one m.join t)) * w (power_sum m (members t))
     top_is t h =
@@ -91,7 +92,7 @@ module _ {L C : Type 0} (c : Rgb → ℕ) (w : Power → ℕ) (ch : IsChannel c 
         ap c (laws.top_is spot k hs h.valid) ∙ ch.by (m.reach spot k) (m.total k) ∙ ap (λ p. c (m.reach spot k) * w p) h.total
 
     -- at each node the estimate and the full sum are at most the bound
-    pub rated_bounded : (t : Node L) → IsNumbered lights t → IsLed t → leaf_count t ≤ 65536 → IsBounded c (rated m spot t)
+    pub rated_bounded : (t : Node L) → IsNumbered lights t → IsLed t → leaf_count t ≤ 65536 → IsBounded c (rated m ts spot t)
     rated_bounded (leaf n l) at led few = tt
     rated_bounded (fork n l a b) at led few =
         let t : Node L = fork n l a b in
@@ -99,10 +100,10 @@ module _ {L C : Type 0} (c : Rgb → ℕ) (w : Power → ℕ) (ch : IsChannel c 
         let h : Holds m t k = holds m laws lights valid t at few in
         let total : ℕ = w (power_sum m (members t)) in
         let top : c (m.top spot k) ≡ c (m.reach spot k) * total = top_is t h in
-        let est : c (by_power (factor_of m spot l) (power_sum m (members t))) ≡ c (factor_of m spot l) * total = ch.by (factor_of m spot l) (power_sum m (members t)) in
-        let lead : c (factor_of m spot l) * total ≤ c (m.reach spot k) * total = mul-le-mul_right total (leading_below t led h) in
-        let sum : sum_by (λ x. c (contribution m spot x)) (members t) ≤ c (m.reach spot k) * total = contributions_below (c (m.reach spot k)) (members t) (factors_below t h) in
-        let full : full_of c (rated m spot a) + full_of c (rated m spot b) ≡ sum_by (λ x. c (contribution m spot x)) (members t) = full_members c m spot t in (
+        let est : c (by_power (factor_of m ts spot l) (power_sum m (members t))) ≡ c (factor_of m ts spot l) * total = ch.by (factor_of m ts spot l) (power_sum m (members t)) in
+        let lead : c (factor_of m ts spot l) * total ≤ c (m.reach spot k) * total = mul-le-mul_right total (leading_below t led h) in
+        let sum : sum_by (λ x. c (contribution m ts spot x)) (members t) ≤ c (m.reach spot k) * total = contributions_below (c (m.reach spot k)) (members t) (factors_below t h) in
+        let full : full_of c (rated m ts spot a) + full_of c (rated m ts spot b) ≡ sum_by (λ x. c (contribution m ts spot x)) (members t) = full_members c m ts spot t in (
           rw (est, top) (omega (arith, lead)),
           rw (est, top) (omega (arith, full, sum)),
           rated_bounded a at.1 led.1 (omega (arith, few)),
@@ -110,7 +111,7 @@ module _ {L C : Type 0} (c : Rgb → ℕ) (w : Power → ℕ) (ch : IsChannel c 
         )
 
     -- the factor of a representative and the summed intensity are limited
-    factor_limited : (t : Node L) → IsLed t → Holds m t (clump_of m.one m.join t) → c (factor_of m spot (leader t)) ≤ 20000 * 65536 * 10 ^ 13
+    factor_limited : (t : Node L) → IsLed t → Holds m t (clump_of m.one m.join t) → c (factor_of m ts spot (leader t)) ≤ 20000 * 65536 * 10 ^ 13
     factor_limited t led h =
         let k : C = clump_of m.one m.join t in
         omega (arith, leading_below t led h, ch.rgb (m.reach spot k) (20000 * 65536 * 10 ^ 13) (laws.reach_within spot k hs h.valid))
@@ -121,10 +122,10 @@ module _ {L C : Type 0} (c : Rgb → ℕ) (w : Power → ℕ) (ch : IsChannel c 
         let le : w (m.total k) ≤ 10 ^ 8 * m.count k = ch.power (m.total k) (10 ^ 8 * m.count k) (laws.total_within k h.valid) in
         omega (arith, le, h.count, ap w h.total)
 
-    est_limited : (t : Node L) → IsLed t → Holds m t (clump_of m.one m.join t) → c (est_of m spot t) ≤ most_of_leaf * leaf_count t
+    est_limited : (t : Node L) → IsLed t → Holds m t (clump_of m.one m.join t) → c (est_of m ts spot t) ≤ most_of_leaf * leaf_count t
     est_limited t led h =
-        let p : c (factor_of m spot (leader t)) * w (power_sum m (members t)) ≤ (20000 * 65536 * 10 ^ 13) * (10 ^ 8 * leaf_count t) = mul-le-mul (factor_limited t led h) (power_limited t h) in
-        rw (ch.by (factor_of m spot (leader t)) (power_sum m (members t))) (omega (arith, p))
+        let p : c (factor_of m ts spot (leader t)) * w (power_sum m (members t)) ≤ (20000 * 65536 * 10 ^ 13) * (10 ^ 8 * leaf_count t) = mul-le-mul (factor_limited t led h) (power_limited t h) in
+        rw (ch.by (factor_of m ts spot (leader t)) (power_sum m (members t))) (omega (arith, p))
 
     top_limited : (t : Node L) → Holds m t (clump_of m.one m.join t) → c (m.top spot (clump_of m.one m.join t)) ≤ most_of_leaf * leaf_count t
     top_limited t h =
@@ -134,13 +135,13 @@ module _ {L C : Type 0} (c : Rgb → ℕ) (w : Power → ℕ) (ch : IsChannel c 
         rw (top_is t h) (omega (arith, p))
 
     -- no estimate and no bound is above what a light can give for each leaf
-    pub rated_limited : (t : Node L) → IsNumbered lights t → IsLed t → leaf_count t ≤ 65536 → IsLimited c most_of_leaf (rated m spot t)
+    pub rated_limited : (t : Node L) → IsNumbered lights t → IsLed t → leaf_count t ≤ 65536 → IsLimited c most_of_leaf (rated m ts spot t)
     rated_limited (leaf n l) at led few =
-        let e : c (est_of m spot (leaf n l)) ≤ most_of_leaf * leaf_count (leaf n l) = est_limited (leaf n l) led (holds m laws lights valid (leaf n l) at few) in omega (arith, e)
+        let e : c (est_of m ts spot (leaf n l)) ≤ most_of_leaf * leaf_count (leaf n l) = est_limited (leaf n l) led (holds m laws lights valid (leaf n l) at few) in omega (arith, e)
     rated_limited (fork n l a b) at led few =
         let h : Holds m (fork n l a b) (clump_of m.one m.join (fork n l a b)) = holds m laws lights valid (fork n l a b) at few in
-        let na : rates.leaf_count (rated m spot a) ≡ leaf_count a = leaves_rated m spot a in
-        let nb : rates.leaf_count (rated m spot b) ≡ leaf_count b = leaves_rated m spot b in (
+        let na : rates.leaf_count (rated m ts spot a) ≡ leaf_count a = leaves_rated m ts spot a in
+        let nb : rates.leaf_count (rated m ts spot b) ≡ leaf_count b = leaves_rated m ts spot b in (
           rw (na, nb) (est_limited (fork n l a b) led h),
           rw (na, nb) (top_limited (fork n l a b) h),
           rated_limited a at.1 led.1 (omega (arith, few)),

@@ -1,5 +1,6 @@
 -- The trees of a forest: their lights, what holds of them, and what they have at a spot.
-use Rattle.std.specs.Prelude.{ℕ, ◌+◌, ◌≤◌, length}
+use Rattle.std.specs.Prelude.{ℕ, ◌+◌, ◌≤◌, List, length}
+use Rattle.lc_geom.specs.declared.triangle.Tri.{Tri}
 use Rattle.lc_light.specs.Lights.{IsOmni, IsOriented, IsSun}
 use Rattle.lc_light.specs.declared.lights.Lights.{Lights}
 use Rattle.lc_terms.specs.declared.spot.Spot.{Spot}
@@ -36,10 +37,10 @@ pub record IsForest (forest : Forest) : Type 0 where
   pub sun : IsTreeIf IsSun forest.sun
   pub few : light_count (lights_of forest) ≤ 65536
 
--- the rated trees of a forest
-abbrev pub trees_of : Spot → Forest → Trees
-trees_of spot forest = record {
-  omni = rated_root omni_meaning spot forest.omni.root;
-  oriented = rated_root oriented_meaning spot forest.oriented.root;
-  sun = rated_root sun_meaning spot forest.sun.root;
+-- the rated trees of a forest at a spot among triangles
+abbrev pub trees_of : List Tri → Spot → Forest → Trees
+trees_of ts spot forest = record {
+  omni = rated_root omni_meaning ts spot forest.omni.root;
+  oriented = rated_root oriented_meaning ts spot forest.oriented.root;
+  sun = rated_root sun_meaning ts spot forest.sun.root;
 }

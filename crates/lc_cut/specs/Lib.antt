@@ -2,6 +2,9 @@ pub mod Contribution
 pub mod Rating
 pub mod Forest
 pub use Rattle.lc_num.specs.Channels
+pub use Rattle.lc_geom.specs.Triangles
+pub use Rattle.lc_geom.specs.Crossing
+pub use Rattle.lc_geom.specs.Hits
 pub use Rattle.lc_light.specs.Lights
 pub use Rattle.lc_terms.specs.Spot
 pub use Rattle.lc_terms.specs.Kind

@@ -8,6 +8,7 @@ ghost use Rattle.lc_cut.specs.Forest.{IsForest, forest_of, light_count, lights_o
 
 use crate::rating::Rating;
 use lc_bound::{OmniKind, OrientedKind, SunKind};
+use lc_geom::Triangles;
 use lc_light::Lights;
 use lc_num::{Memory, Steps};
 use lc_rated::{Answer, Bench, best_cut};
@@ -61,13 +62,14 @@ fn known(forest: &Forest)
     forest.sun.count();
 }
 
-/// The light at a matte spot by the best-first cut through the three trees (Lightcuts 2005): the answer of the first cut
-/// whose bound is at most `permille` thousandths of its estimate in each channel, or that has the greatest size. Each
-/// representative that is evaluated counts one step. It takes no memory.
-pub fn cut<L: Ledger>(
+/// The light at a matte spot among the triangles of a scene, by the best-first cut through the three trees (Lightcuts
+/// 2005): the answer of the first cut whose bound is at most `permille` thousandths of its estimate in each channel, or
+/// that has the greatest size. Each representative that is evaluated counts one step. It takes no memory.
+pub fn cut<T: Triangles, L: Ledger>(
     bench: &mut Bench,
     forest: &Forest,
     spot: &Spot,
+    scene: &T,
     ask: Ask,
     steps: &mut Steps<L>,
 ) -> Answer
@@ -78,8 +80,8 @@ pub fn cut<L: Ledger>(
     requires least { 3 ≤ ask.size }
     requires most { ask.size ≤ 65536 }
     requires permille { ask.permille ≤ 1000 }
-    ensures value { result ≡ answer ask.size ask.permille (trees_of spot.now forest.now) }
-    ensures near { IsNear (plain spot.now (lights_of forest.now)) result }
+    ensures value { result ≡ answer ask.size ask.permille (trees_of (T.list scene.now) spot.now forest.now) }
+    ensures near { IsNear (plain (T.list scene.now) spot.now (lights_of forest.now)) result }
     ensures fraction { (result.size ≡ ask.size) ⊎ IsFraction ask.permille result }
     ensures size { result.size ≤ ask.size }
     ensures evals { result.evals ≤ 2 * ask.size }
@@ -87,6 +89,10 @@ pub fn cut<L: Ledger>(
     ensures bench { bench.new ≡ bench.old }
 {
     known(forest);
-    let mut rating = Rating { forest, spot };
+    let mut rating = Rating {
+        forest,
+        spot,
+        scene,
+    };
     best_cut(bench, &mut rating, ask.size, ask.permille, steps)
 }

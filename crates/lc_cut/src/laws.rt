@@ -1,6 +1,7 @@
 // What the answer of a cut says of the sum over all lights, by the definitions alone. The functions do nothing: each
 // states laws by its contract.
-ghost use Rattle.std.specs.Prelude.{◌≡◌, ℕ, ◌≤◌, ◌⊎◌};
+ghost use Rattle.std.specs.Prelude.{◌≡◌, ℕ, ◌≤◌, ◌⊎◌, List};
+ghost use Rattle.lc_geom.specs.declared.triangle.Tri.{Tri};
 ghost use Rattle.lc_light.specs.Lights.{AreLights};
 ghost use Rattle.lc_light.specs.declared.lights.Lights.{Lights};
 ghost use Rattle.lc_terms.specs.Spot.{IsSpot};
@@ -17,10 +18,10 @@ pub fn forests_of_all_lights()
     ensures lights { (seed : ℕ) (lights : Lights) → lights_of (forest_of seed lights) ≡ lights }
 {}
 
-/// At every valid spot and for every three trees over valid lights, whatever their shapes, the estimate differs from the
+/// At every valid spot among whatever triangles, and for every three trees over valid lights, whatever their shapes, the estimate differs from the
 /// sum over all lights by at most the bound in each channel, and the bound is within the permille of the estimate unless
 /// the cut has the greatest size.
 pub fn distance_to_all_lights()
-    ensures near { (size permille : ℕ) (spot : Spot) (forest : Forest) → IsSpot spot → IsForest forest → IsNear (plain spot (lights_of forest)) (answer size permille (trees_of spot forest)) }
-    ensures fraction { (size permille : ℕ) (spot : Spot) (forest : Forest) → 3 ≤ size → ((answer size permille (trees_of spot forest)).size ≡ size) ⊎ IsFraction permille (answer size permille (trees_of spot forest)) }
+    ensures near { (size permille : ℕ) (ts : List Tri) (spot : Spot) (forest : Forest) → IsSpot spot → IsForest forest → IsNear (plain ts spot (lights_of forest)) (answer size permille (trees_of ts spot forest)) }
+    ensures fraction { (size permille : ℕ) (ts : List Tri) (spot : Spot) (forest : Forest) → 3 ≤ size → ((answer size permille (trees_of ts spot forest)).size ≡ size) ⊎ IsFraction permille (answer size permille (trees_of ts spot forest)) }
 {}

@@ -6,6 +6,7 @@ ghost use Rattle.lc_terms.specs.Spot.{IsMatte, IsSpot};
 ghost use Rattle.lc_tree.specs.Node.{count_of, leader, node_of};
 ghost use Rattle.lc_cut.specs.Rating.{bound_of, rate_at};
 
+use lc_geom::Triangles;
 use lc_num::{Power, Rgb, Steps};
 use lc_rated::Rate;
 use lc_terms::{Kind, Spot, eval};
@@ -54,19 +55,20 @@ fn total<K: Kind>(clump: &K::Clump) -> Power
 }
 
 /// The estimate and the bound of a node. Its representative is evaluated, which counts one step.
-pub(crate) fn rate<K: Kind, L: Ledger>(
+pub(crate) fn rate<K: Kind, T: Triangles, L: Ledger>(
     tree: &Tree<K>,
     node: u32,
     spot: &Spot,
+    scene: &T,
     steps: &mut Steps<L>,
 ) -> Rate
     requires spot { IsSpot spot.now }
     requires matte { IsMatte spot.now }
     requires node { node < count_of tree.now.root }
-    ensures value { IsSomeAnd (node_of tree.now.root node) (λ t. result ≡ rate_at K.meaning spot.now t) }
+    ensures value { IsSomeAnd (node_of tree.now.root node) (λ t. result ≡ rate_at K.meaning (T.list scene.now) spot.now t) }
     ensures steps { steps.new ≡ steps.old + 1 }
 {
-    let factor = eval::<K, L>(spot, &leading(tree, node), steps);
+    let factor = eval::<K, T, L>(spot, &leading(tree, node), scene, steps);
     let clump = tree.clump(node);
     let bound = if tree.kids(node).is_some() {
         K::top(spot, &clump)

@@ -1,32 +1,38 @@
-// The trees of a forest at one spot.
+// The trees of a forest at one spot of a scene.
 ghost use Rattle.std.specs.Prelude.{◌≡◌};
 ghost use Rattle.lc_terms.specs.Spot.{IsMatte, IsSpot};
 ghost use Rattle.lc_tree.specs.Node.{count_of};
 
 use crate::forest::Forest;
 use crate::node::rate;
+use lc_geom::Triangles;
 use lc_num::Steps;
 use lc_rated::{LightKind, Rate, Rater};
 use lc_terms::Spot;
 use std::sync::ledger::Ledger;
 
-/// The trees of a forest at a matte spot.
-pub(crate) struct Rating<'a> {
+/// The trees of a forest at a matte spot among the triangles of a scene.
+pub(crate) struct Rating<'a, T: Triangles> {
     pub(crate) forest: &'a Forest,
     pub(crate) spot: &'a Spot,
+    pub(crate) scene: &'a T,
     ghost valid: { IsSpot spot.now × IsMatte spot.now },
 }
 
-impl Drop for Rating<'_> {
+impl<T: Triangles> Drop for Rating<'_, T> {
     fn drop(self) {
-        let Self { forest: _, spot: _ } = self;
+        let Self {
+            forest: _,
+            spot: _,
+            scene: _,
+        } = self;
     }
 }
 
-impl Rater for Rating<'_> {
+impl<T: Triangles> Rater for Rating<'_, T> {
     ghost use Rattle.lc_cut.specs.Forest.{trees_of};
 
-    ghost trees = { λ r. trees_of r.spot.now r.forest.now };
+    ghost trees = { λ r. trees_of (T.list r.scene.now) r.spot.now r.forest.now };
 
     fn has(&self, kind: LightKind) -> bool {
         match kind {
@@ -46,9 +52,9 @@ impl Rater for Rating<'_> {
 
     fn rate<L: Ledger>(&mut self, kind: LightKind, node: u32, steps: &mut Steps<L>) -> Rate {
         match kind {
-            LightKind::Omni => rate(&self.forest.omni, node, self.spot, steps),
-            LightKind::Oriented => rate(&self.forest.oriented, node, self.spot, steps),
-            LightKind::Sun => rate(&self.forest.sun, node, self.spot, steps),
+            LightKind::Omni => rate(&self.forest.omni, node, self.spot, self.scene, steps),
+            LightKind::Oriented => rate(&self.forest.oriented, node, self.spot, self.scene, steps),
+            LightKind::Sun => rate(&self.forest.sun, node, self.spot, self.scene, steps),
         }
     }
 }

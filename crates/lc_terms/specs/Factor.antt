@@ -1,4 +1,4 @@
--- The material term of a spot, and the factor of a light there.
+-- The material term of a spot, and the factor of a light that is seen there.
 use Rattle.std.specs.Prelude.{ℕ, ◌*◌}
 use Rattle.lc_num.specs.Cosines.{cos16}
 use Rattle.lc_num.specs.declared.vectors.Vec3.{Vec3}
@@ -14,6 +14,6 @@ material spot b = record {
   b = spot.kd.b * cos16 spot.n b;
 }
 
--- the geometric term times the material term, for light from b
+-- the geometric term times the material term, for light from b that nothing blocks
 abbrev pub factor : Spot → Vec3 → ℕ → Rgb
 factor spot b geometry = times geometry (material spot b)

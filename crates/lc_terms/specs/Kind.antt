@@ -1,10 +1,12 @@
 -- What a kind of light means, and what every kind keeps.
-use Rattle.std.specs.Prelude.{◌≡◌, ℕ, ◌+◌, ◌*◌, ◌≤◌, ◌^◌, ◌⊎◌}
-use Rattle.lc_num.specs.Channels.{IsPowerWithin, IsRgbWithin}
+use Rattle.std.specs.Prelude.{◌≡◌, ℕ, ◌+◌, ◌*◌, ◌≤◌, ◌^◌, ◌⊎◌, Bool, not, List, if◌then◌else◌}
+use Rattle.lc_num.specs.Channels.{black, IsPowerWithin, IsRgbWithin}
 use Rattle.lc_num.specs.Vectors.{Within}
 use Rattle.lc_num.specs.declared.vectors.Vec3.{Vec3}
 use Rattle.lc_num.specs.declared.channels.Rgb.{Rgb}
 use Rattle.lc_num.specs.declared.channels.Power.{Power}
+use Rattle.lc_geom.specs.declared.triangle.Tri.{Tri}
+use Rattle.lc_geom.specs.Hits.{blocked}
 use Rattle.lc_terms.specs.Channels.{by_power, power_plus, IsAtMost}
 use Rattle.lc_terms.specs.Factor.{factor}
 use Rattle.lc_terms.specs.Spot.{IsSpot}
@@ -28,9 +30,15 @@ pub record Meaning (L C : Type 0) : Type 1 where
   pub total : C → Power
   pub top : Spot → C → Rgb
 
--- the factor of a light at a spot
-abbrev pub factor_of : {L C : Type 0} → Meaning L C → Spot → L → Rgb
-factor_of m spot light = factor spot (m.toward spot.x light) (m.geometry spot.x light)
+-- no triangle blocks the segment from a place to the light's target there
+abbrev pub is_seen : {L C : Type 0} → Meaning L C → List Tri → Vec3 → L → Bool
+is_seen m ts x light = not (blocked x (m.target x light) ts)
+
+-- the factor of a light at a spot among triangles: that of its direction and its geometric term where the light is seen,
+-- and else nothing
+abbrev pub factor_of : {L C : Type 0} → Meaning L C → List Tri → Spot → L → Rgb
+factor_of m ts spot light =
+    if is_seen m ts spot.x light then factor spot (m.toward spot.x light) (m.geometry spot.x light) else black
 
 -- what every kind keeps
 pub record Laws {L C : Type 0} (m : Meaning L C) : Type 0 where
@@ -51,5 +59,5 @@ pub record Laws {L C : Type 0} (m : Meaning L C) : Type 0 where
   pub total_within : (c : C) → m.valid_clump c → IsPowerWithin (10 ^ 8 * m.count c) (m.total c)
   pub reach_within : (s : Spot) (c : C) → IsSpot s → m.valid_clump c → IsRgbWithin (20_000 * 65_536 * 10 ^ 13) (m.reach s c)
   pub top_is : (s : Spot) (c : C) → IsSpot s → m.valid_clump c → m.top s c ≡ by_power (m.reach s c) (m.total c)
-  -- no light that a clump covers has a greater factor than the clump's bound
-  pub dominates : (s : Spot) (c : C) (l : L) → IsSpot s → m.valid_clump c → m.valid_light l → m.covers c l → IsAtMost (m.reach s c) (factor_of m s l)
+  -- among whatever triangles, no light that a clump covers has a greater factor than the clump's bound
+  pub dominates : (ts : List Tri) (s : Spot) (c : C) (l : L) → IsSpot s → m.valid_clump c → m.valid_light l → m.covers c l → IsAtMost (m.reach s c) (factor_of m ts s l)

@@ -9,6 +9,7 @@ use Rattle.lc_num.specs.declared.channels.Power.{Power}
 use Rattle.lc_terms.specs.Channels.{power_plus, times, IsAtMost}
 use Rattle.lc_terms.specs.Factor.{material}
 use Rattle.lc_terms.specs.Kind.{Meaning, Laws}
+use Rattle.lc_terms.specs.SeenLaws.{factor-below}
 
 abbrev pub Lamp : Type 0
 Lamp = Vec3 × Power
@@ -79,5 +80,5 @@ lamp_laws = record {
   total_within = λ c h. h.total;
   reach_within = λ s c hs hc. record { r = omega arith; g = omega arith; b = omega arith };
   top_is = λ s c hs hc. same_black (0 * c.0.r) (0 * c.0.g) (0 * c.0.b) (omega arith) (omega arith) (omega arith);
-  dominates = λ s c l hs hc hl h. no_more (material s zero_vector);
+  dominates = λ ts s c l hs hc hl h. factor-below lamp_meaning ts s l black (no_more (material s zero_vector));
 }

@@ -3,14 +3,17 @@ ghost use Rattle.std.specs.Prelude.{◌≡◌, ◌+◌, ◌*◌, ◌^◌, ◌≤
 ghost use Rattle.lc_num.specs.Channels.{IsRgbWithin};
 ghost use Rattle.lc_num.specs.Vectors.{Within};
 ghost use Rattle.lc_terms.specs.Channels.{times};
-ghost use Rattle.lc_terms.specs.Factor.{material};
+ghost use Rattle.lc_terms.specs.Factor.{factor, material};
 ghost use Rattle.lc_terms.specs.Kind.{factor_of};
 ghost use Rattle.lc_terms.specs.Spot.{IsMatte, IsSpot};
 
 use crate::kind::Kind;
 use crate::spot::Spot;
+use lc_geom::Triangles;
 use lc_num::{Rgb, Steps, Vec3, cos16};
 use std::sync::ledger::Ledger;
+
+const BLACK: Rgb = Rgb { r: 0, g: 0, b: 0 };
 
 /// One channel of a colour times a cosine.
 fn share(colour: u32, cosine: u32) -> u128
@@ -62,17 +65,42 @@ fn times(geometry: u64, material: Rgb) -> Rgb
     }
 }
 
-/// The factor of a light at a matte spot: the material term times the geometric term, with no rounding. It counts one
-/// step.
-pub fn eval<K: Kind, L: Ledger>(spot: &Spot, light: &K::Light, steps: &mut Steps<L>) -> Rgb
+/// The factor that a light has where nothing blocks it: the material term times the geometric term, with no rounding.
+fn unblocked<K: Kind>(spot: &Spot, light: &K::Light) -> Rgb
     requires spot { IsSpot spot.now }
     requires matte { IsMatte spot.now }
     requires light { K.meaning.valid_light light.now }
-    ensures value { result ≡ factor_of K.meaning spot.now light.now }
+    ensures value { result ≡ factor spot.now (K.meaning.toward spot.now.x light.now) (K.meaning.geometry spot.now.x light.now) }
+    ensures small { IsRgbWithin (20_000 * 65_536 * 10 ^ 13) result }
+{
+    let material = material(spot, K::toward(spot.x, light));
+    if material == BLACK {
+        return BLACK;
+    }
+    times(K::geometry(spot.x, light), material)
+}
+
+/// The factor of a light at a matte spot (Lightcuts 2005: the material, geometric and visibility terms): the material
+/// term times the geometric term, with no rounding, where no triangle of the scene blocks the segment from the spot to
+/// the light's target, and else 0. It counts one step. Where the product is 0 no segment is tested.
+pub fn eval<K: Kind, T: Triangles, L: Ledger>(
+    spot: &Spot,
+    light: &K::Light,
+    scene: &T,
+    steps: &mut Steps<L>,
+) -> Rgb
+    requires spot { IsSpot spot.now }
+    requires matte { IsMatte spot.now }
+    requires light { K.meaning.valid_light light.now }
+    ensures value { result ≡ factor_of K.meaning (T.list scene.now) spot.now light.now }
     ensures small { IsRgbWithin (20_000 * 65_536 * 10 ^ 13) result }
     ensures steps { steps.new ≡ steps.old + 1 }
 {
     steps.tick();
-    let material = material(spot, K::toward(spot.x, light));
-    times(K::geometry(spot.x, light), material)
+    let factor = unblocked::<K>(spot, light);
+    if factor == BLACK || scene.blocked(spot.x, K::target(spot.x, light)) {
+        BLACK
+    } else {
+        factor
+    }
 }

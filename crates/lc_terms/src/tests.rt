@@ -4,6 +4,7 @@ ghost use Rattle.lc_terms.specs.Lamps.{lamp_laws, lamp_meaning};
 ghost use Rattle.lc_terms.specs.Spot.{IsMatte, IsSpot};
 
 use super::*;
+use lc_geom::{Hit, Triangles};
 use lc_num::{Colour, Power, Rgb, Steps, Vec3};
 use std::marker::Brand;
 use std::sync::ledger::{Blank, Ledger};
@@ -60,6 +61,23 @@ impl Kind for Dark {
 
     fn top(_spot: &Spot, _clump: &(Power, u32)) -> Rgb {
         Rgb { r: 0, g: 0, b: 0 }
+    }
+}
+
+/// No triangle at all.
+struct Open;
+
+impl Triangles for Open {
+    ghost use Rattle.std.specs.Prelude.{[]};
+
+    ghost list = { λ s. [] };
+
+    fn blocked(&self, _p: Vec3, _q: Vec3) -> bool {
+        false
+    }
+
+    fn nearest(&self, _e: Vec3, _d: Vec3) -> Option<Hit> {
+        None
     }
 }
 
@@ -135,7 +153,7 @@ fn factor_of_dark<L: Ledger>(blank: Blank) -> Rgb
             b: 10000,
         },
     );
-    eval::<Dark, L>(&spot(), &lamp, &mut steps)
+    eval::<Dark, Open, L>(&spot(), &lamp, &Open, &mut steps)
 }
 
 #[test]

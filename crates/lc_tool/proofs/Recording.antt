@@ -23,7 +23,7 @@ use Rattle.lc_tool.specs.Course.{Course, Refusal, goes_on, and_then, at_once}
 use Rattle.lc_tool.specs.Lines.{file_limit}
 use Rattle.lc_tool.specs.Words.{Command, probe}
 use Rattle.lc_tool.specs.Written.{Written, wrote}
-use Rattle.lc_tool.specs.Outcome.{within, text_of, unless_faulty, lights_of, probe_size, probe_permille, probe_spot, probe_answer, report_of, probe_course, course_of}
+use Rattle.lc_tool.specs.Outcome.{probe_scene, within, text_of, unless_faulty, lights_of, probe_size, probe_permille, probe_spot, probe_answer, report_of, probe_course, course_of}
 use Rattle.lc_tool.specs.Probed.{ProbeRecorded, Recorded}
 use Rattle.lc_tool.specs.Status.{code}
 use Rattle.lc_tool.specs.Ends.{Counts}
@@ -102,10 +102,10 @@ probe_recorded name place direction files before now steps_before steps_now w at
       answer = probe_answer place direction (lights given.text 0);
       recorded = slots ∙ ap (λ w. wrote w before.slots) is;
       cut = refl;
-      near = answer_near spot (spot_valid place direction at) forest (forest_of_is 0 (lights given.text 0) valid) probe_size probe_permille;
-      fraction = fraction probe_size probe_permille (trees_of spot forest) (omega arith);
-      size = size_most probe_size probe_permille (trees_of spot forest) (omega arith);
-      evals = evals_most probe_size probe_permille (trees_of spot forest) (omega arith);
+      near = answer_near probe_scene spot (spot_valid place direction at) forest (forest_of_is 0 (lights given.text 0) valid) probe_size probe_permille;
+      fraction = fraction probe_size probe_permille (trees_of probe_scene spot forest) (omega arith);
+      size = size_most probe_size probe_permille (trees_of probe_scene spot forest) (omega arith);
+      evals = evals_most probe_size probe_permille (trees_of probe_scene spot forest) (omega arith);
       counted = counted ∙ ap (λ w. steps_before + w.evals) is;
     }
 

@@ -17,6 +17,9 @@ pub use Rattle.lc_desk.specs.Causes
 pub use Rattle.lc_light.specs.Lights
 pub use Rattle.lc_light.specs.LightFile
 pub use Rattle.lc_scan.specs.Decimal
+pub use Rattle.lc_geom.specs.Triangles
+pub use Rattle.lc_geom.specs.Crossing
+pub use Rattle.lc_geom.specs.Hits
 pub use Rattle.lc_terms.specs.Spot
 pub use Rattle.lc_terms.specs.Kind
 pub use Rattle.lc_bound.specs.Omni

@@ -5,6 +5,7 @@ use Rattle.lc_num.specs.Cosines.{scaled}
 use Rattle.lc_num.specs.Faults.{Fault}
 use Rattle.lc_num.specs.declared.vectors.Vec3.{Vec3}
 use Rattle.lc_desk.specs.Desk.{Files}
+use Rattle.lc_geom.specs.declared.triangle.Tri.{Tri}
 use Rattle.lc_light.specs.LightFile.{fault_in, lights}
 use Rattle.lc_light.specs.declared.lights.Lights.{Lights}
 use Rattle.lc_terms.specs.declared.spot.Spot.{Spot}
@@ -60,10 +61,14 @@ probe_size = 1000
 abbrev pub probe_permille : ℕ
 probe_permille = 20
 
+-- the triangles of a probe's scene: none
+abbrev pub probe_scene : List Tri
+probe_scene = []
+
 -- the answer of the chosen cut through the trees of a file's lights, under the seed 0
 unfoldable pub probe_answer : Vec3 → Vec3 → Lights → Answer
 probe_answer place direction lights =
-    answer probe_size probe_permille (trees_of (probe_spot place direction) (forest_of 0 lights))
+    answer probe_size probe_permille (trees_of probe_scene (probe_spot place direction) (forest_of 0 lights))
 
 abbrev pub report_of : Answer → Written
 report_of answer = record { picture = None; bounds = None; report = record_line answer; evals = answer.evals }

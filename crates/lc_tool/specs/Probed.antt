@@ -7,7 +7,7 @@ use Rattle.lc_cut.specs.Contribution.{plain}
 use Rattle.lc_rated.specs.declared.answer.Answer.{Answer}
 use Rattle.lc_rated.specs.Cuts.{IsNear, IsFraction}
 use Rattle.lc_tool.specs.Lines.{record_line}
-use Rattle.lc_tool.specs.Outcome.{probe_spot, probe_size, probe_permille, probe_answer}
+use Rattle.lc_tool.specs.Outcome.{probe_spot, probe_scene, probe_size, probe_permille, probe_answer}
 use Rattle.lc_tool.specs.Words.{Command, probe, command_of}
 
 -- Report has gained one line, and each other slot is as it was. The line is the answer of the chosen cut. Its estimate
@@ -20,7 +20,7 @@ pub record ProbeRecorded (name : List ℕ) (place direction : Vec3) (files : Fil
   pub answer : Answer
   pub recorded : now.slots ≡ record before.slots { report = appended (record_line answer) before.slots.report }
   pub cut : answer ≡ probe_answer place direction (lights text 0)
-  pub near : IsNear (plain (probe_spot place direction) (lights text 0)) answer
+  pub near : IsNear (plain probe_scene (probe_spot place direction) (lights text 0)) answer
   pub fraction : (answer.size ≡ probe_size) ⊎ IsFraction probe_permille answer
   pub size : answer.size ≤ probe_size
   pub evals : answer.evals ≤ 2 * probe_size

@@ -14,4 +14,6 @@ mod write;
 pub use program::run;
 
 #[cfg(test)]
+mod shade_tests;
+#[cfg(test)]
 mod tests;

@@ -14,8 +14,9 @@ use crate::status::{Status, Stop};
 use crate::write::{put_report, settle};
 use lc_cut::{Answer, Ask, Bench, Forest, cut};
 use lc_desk::Desk;
+use lc_hier::Plain;
 use lc_light::Lights;
-use lc_num::{Colour, Memory, Steps, Vec3, scaled};
+use lc_num::{Colour, List, Memory, Steps, Vec3, scaled};
 use lc_terms::Spot;
 use std::alloc::Global;
 use std::sync::ledger::Ledger;
@@ -51,7 +52,7 @@ const ASK: Ask = Ask {
     size: 1000,
 };
 
-/// The light of a file's lights at a spot.
+/// The light of a file's lights at a spot, with no triangle between them.
 fn answer_at<L: Ledger>(
     alloc: Global,
     place: Vec3,
@@ -67,8 +68,9 @@ fn answer_at<L: Ledger>(
 {
     let forest = Forest::build(alloc, lights, 0)?;
     let mut bench = Bench::new(alloc, ASK.size)?;
+    let scene = Plain::new(List::new(alloc));
     let spot = spot_at(place, direction);
-    Ok(cut(&mut bench, &forest, &spot, ASK, steps))
+    Ok(cut(&mut bench, &forest, &spot, &scene, ASK, steps))
 }
 
 /// Puts the record line of an answer on Report.

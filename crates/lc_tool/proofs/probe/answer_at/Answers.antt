@@ -1,12 +1,13 @@
 use Rattle.std.proofs.Common.{ap, ◌∙◌}
 use Rattle.lc_rated.specs.Cuts.{answer}
 use Rattle.lc_cut.specs.Forest.{trees_of}
-use Rattle.lc_tool.specs.Outcome.{probe_size, probe_permille, probe_spot, probe_answer}
+use Rattle.lc_tool.specs.Outcome.{probe_scene, probe_size, probe_permille, probe_spot, probe_answer}
 use Rattle.lc_tool.proofs.probe.answer_at.Goals as goal
 
 pub returns-clause-value : goal.returns-clause-value
 unfolding probe_answer
 returns-clause-value g c =
     c.cut.ensures.value
-    ∙ ap (λ spot. answer probe_size probe_permille (trees_of spot c.in_ok-forest.forest)) c.spot_at-spot.ensures.value
-    ∙ ap (λ forest. answer probe_size probe_permille (trees_of (probe_spot c.args.place c.args.direction) forest)) c.in_ok-forest.ensures.value
+    ∙ ap (λ scene. answer probe_size probe_permille (trees_of scene c.spot_at-spot.result c.in_ok-forest.forest)) (c.new-scene.ensures ∙ c.new-2.ensures)
+    ∙ ap (λ spot. answer probe_size probe_permille (trees_of probe_scene spot c.in_ok-forest.forest)) c.spot_at-spot.ensures.value
+    ∙ ap (λ forest. answer probe_size probe_permille (trees_of probe_scene (probe_spot c.args.place c.args.direction) forest)) c.in_ok-forest.ensures.value

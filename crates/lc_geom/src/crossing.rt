@@ -33,16 +33,20 @@ pub(crate) fn sides(p: Vec3, q: Vec3, t: &Tri) -> (i128, i128)
     (side(t, outward, p), side(t, outward, q))
 }
 
+/// Whether one is below 0 and one above. A processor cannot foresee which, so the signs are compared at once.
 fn are_opposite(s: i128, r: i128) -> bool
     ensures { result ≡ are_opposite s r }
 {
-    (s < 0 && r > 0) || (s > 0 && r < 0)
+    (s < 0) != (r < 0) && s != 0 && r != 0
 }
 
+/// Whether none is below 0, or none above. Here too the signs are gathered before there is a branch.
 fn have_one_sign(u: i128, v: i128, w: i128) -> bool
     ensures { result ≡ have_one_sign u v w }
 {
-    (u >= 0 && v >= 0 && w >= 0) || (u <= 0 && v <= 0 && w <= 0)
+    let some_below = (u < 0) | (v < 0) | (w < 0);
+    let some_above = (u > 0) | (v > 0) | (w > 0);
+    !(some_below & some_above)
 }
 
 /// The volumes between a segment and the first two sides of a triangle. They share the cross product of the segment and

@@ -1,6 +1,6 @@
 use Rattle.std.proofs.Common.{◌≡◌, ◌∙◌, ap₂, Bool, true, false, ℤ}
 use Rattle.std.specs.Prelude.{◌&&◌}
-use Rattle.lc_geom.specs.Crossing.{are_opposite, have_one_sign, crosses, side, volume}
+use Rattle.lc_geom.specs.Crossing.{are_opposite, crosses}
 use Rattle.lc_geom.proofs.CrossingCode.{read_short}
 use Rattle.lc_geom.proofs.crossing.crosses_between.Goals as goal
 

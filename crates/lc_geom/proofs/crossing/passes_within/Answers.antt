@@ -1,7 +1,7 @@
-use Rattle.std.proofs.Common.{◌≡◌, ◌<◌, arith, ap, ◌∙◌, ℤ, ◌-ℤ◌, ap₂}
+use Rattle.std.proofs.Common.{◌≡◌, arith, ◌∙◌, ℤ, ◌-ℤ◌}
 use Rattle.std.specs.Int.{w128}
 use Rattle.lc_algebra.proofs.Machine.{read}
-use Rattle.lc_geom.specs.Crossing.{have_one_sign, side, volume}
+use Rattle.lc_geom.specs.Crossing.{have_one_sign, volume}
 use Rattle.lc_geom.proofs.CrossingLaws.{volumes_sum}
 use Rattle.lc_geom.proofs.CrossingCode.{read_short, rest_fits, rest_gives}
 use Rattle.lc_geom.proofs.crossing.passes_within.Goals as goal

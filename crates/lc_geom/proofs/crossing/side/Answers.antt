@@ -1,7 +1,5 @@
-use Rattle.std.proofs.Common.{◌≡◌, ◌*◌, ◌^◌, ◌<◌, arith, ap, ap₂, ◌∙◌}
-use Rattle.std.specs.Int.{w128}
+use Rattle.std.proofs.Common.{◌^◌, ◌<◌, arith, ap₂, ◌∙◌}
 use Rattle.std.specs.Int.RustNames.{unsigned_abs}
-use Rattle.lc_algebra.proofs.Machine.{read}
 use Rattle.lc_num.specs.Vectors.{dot}
 use Rattle.lc_num.proofs.Triples.{dot_bound}
 use Rattle.lc_geom.specs.Crossing.{side}

@@ -1,8 +1,8 @@
-use Rattle.std.proofs.Common.{◌≡◌, ℕ, ◌*◌, ◌^◌, ◌<◌, ◌≤◌, arith, ap, sym, ◌∙◌, ℤ, pos, ◌-ℤ◌, ap₂}
+use Rattle.std.proofs.Common.{◌≡◌, ◌*◌, ◌^◌, ◌<◌, arith, ap, ◌∙◌, ℤ, pos, ◌-ℤ◌, ap₂}
 use Rattle.std.specs.Int.{w128}
 use Rattle.std.specs.Int.RustNames.{unsigned_abs}
 use Rattle.lc_algebra.proofs.Machine.{read}
-use Rattle.lc_num.specs.Vectors.{Within, dot, cross, difference}
+use Rattle.lc_num.specs.Vectors.{Within, dot, cross}
 use Rattle.lc_num.specs.declared.vectors.Vec3.{Vec3}
 use Rattle.lc_num.proofs.Triples.{dot_bound}
 use Rattle.lc_geom.proofs.CrossingLaws.{volume_before, volume_after}

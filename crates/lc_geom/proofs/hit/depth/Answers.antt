@@ -1,11 +1,9 @@
 use Rattle.std.proofs.Common.{◌≡◌, ℕ, zero, suc, refl, ◌<◌, arith, Bool, true, false, ap, ap₂, sym, ◌∙◌, ℤ, pos, negsuc, Some, None}
 use Rattle.std.specs.Prelude.{◌&&◌, ◌||◌, int_lt}
-use Rattle.std.specs.Int.{w128}
 use Rattle.std.specs.Int.RustNames.{unsigned_abs}
-use Rattle.lc_algebra.proofs.Machine.{read}
 use Rattle.lc_num.specs.declared.vectors.Vec3.{Vec3}
 use Rattle.lc_geom.specs.declared.triangle.Tri.{Tri}
-use Rattle.lc_geom.specs.Crossing.{are_opposite, have_one_sign, side, volume, crosses}
+use Rattle.lc_geom.specs.Crossing.{are_opposite, side, crosses}
 use Rattle.lc_geom.specs.Hits.{depth, depth_between, moved}
 use Rattle.lc_geom.proofs.CrossingCode.{read_short}
 use Rattle.lc_geom.proofs.hit.depth.Goals as goal

@@ -1,4 +1,4 @@
-use Rattle.std.proofs.Common.{◌^◌, arith}
+use Rattle.std.proofs.Common.{arith}
 use Rattle.lc_geom.proofs.triangle.across.Goals as goal
 
 pub returns-clause-within : goal.returns-clause-within

@@ -1,4 +1,4 @@
-use Rattle.std.proofs.Common.{◌≡◌, arith, sym, ap, ◌∙◌}
+use Rattle.std.proofs.Common.{arith, sym, ap, ◌∙◌}
 use Rattle.lc_geom.specs.Hits.{blocked}
 use Rattle.lc_hier.proofs.Walking.{blocked_here, blocked_later, blocked_none}
 use Rattle.lc_hier.proofs.plain.PlainTriangles.blocked.Goals as goal

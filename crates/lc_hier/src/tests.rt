@@ -77,6 +77,12 @@ fn first_hits(rt: HostRuntime) -> Result<(), Fail> {
         hit(2)
     );
     assert_eq!(rt; three(rt.alloc(), low, low, lower)?.nearest(eye, up), None);
+    let mut twice = List::new(rt.alloc());
+    twice.push(low)?;
+    twice.push(low)?;
+    let twice = Plain::new(twice);
+    assert_eq!(rt; twice.nearest(eye, down), hit(0));
+    assert_eq!(rt; twice.nearest(eye, up), None);
     let far = Vec3 {
         x: 0,
         y: 0,

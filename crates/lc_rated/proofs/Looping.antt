@@ -1,5 +1,5 @@
 -- The loop goes through the sequence of cuts up to the chosen one.
-use Rattle.std.proofs.Common.{◌≡◌, ℕ, suc, ◌+◌, ◌-◌, ◌*◌, ◌<◌, ◌≤◌, List, length, true, false, refl, ap, sym, subst, ◌∙◌, arith, nat_lt}
+use Rattle.std.proofs.Common.{◌≡◌, ℕ, Bool, suc, ◌+◌, ◌-◌, ◌*◌, ◌<◌, ◌≤◌, List, length, true, false, refl, ap, sym, subst, ◌∙◌, arith, nat_lt}
 use Rattle.std.proofs.lemmas.Bool.Decides.{nat_tests}
 use Rattle.lc_num.specs.declared.channels.Rgb.{Rgb}
 use Rattle.lc_rated.specs.declared.rate.Rate.{Rate}
@@ -19,9 +19,13 @@ now_length : (roots : List Placed) (nodes : Nodes) → IsCutOf roots nodes → l
 now_length roots nodes h = ap length h.marks ∙ length-map mark_of (cut_now roots nodes)
 
 -- the test of the code is that of the cut
-pub now_stops : (size permille : ℕ) (roots : List Placed) (nodes : Nodes) → IsCutOf roots nodes → sums_stop size permille (length nodes.marks.items) nodes.sums ≡ stops size permille (cut_now roots nodes)
+now_stops : (size permille : ℕ) (roots : List Placed) (nodes : Nodes) → IsCutOf roots nodes → sums_stop size permille (length nodes.marks.items) nodes.sums ≡ stops size permille (cut_now roots nodes)
 now_stops size permille roots nodes h =
     ap (λ n. sums_stop size permille n nodes.sums) (now_length roots nodes h) ∙ ap (sums_stop size permille (length (cut_now roots nodes))) h.sums
+
+-- the answer of the code's test is that of the cut
+pub now_test : (answer : Bool) (size permille : ℕ) (roots : List Placed) (nodes : Nodes) → IsCutOf roots nodes → answer ≡ sums_stop size permille (length nodes.marks.items) nodes.sums → stops size permille (cut_now roots nodes) ≡ answer
+now_test answer size permille roots nodes h is = sym (is ∙ now_stops size permille roots nodes h)
 
 pub now_within : (size permille : ℕ) (roots : List Placed) (nodes : Nodes) → length roots ≤ size → IsCutOf roots nodes → Going size permille roots (length nodes.marks.items - length roots) → length nodes.marks.items ≤ size
 now_within size permille roots nodes few h go =

@@ -4,7 +4,7 @@ use Rattle.lc_rated.specs.Cuts.{Placed, greatest_key, roots_of, stops}
 use Rattle.lc_rated.specs.Nodes.{cut_now}
 use Rattle.lc_rated.proofs.CutSequence.{few_of, key_positive}
 use Rattle.lc_rated.proofs.Starting.{less_room}
-use Rattle.lc_rated.proofs.Looping.{now_small, now_stops, now_within, now_below, next_going, now_answer}
+use Rattle.lc_rated.proofs.Looping.{now_small, now_test, now_within, now_below, next_going, now_answer}
 use Rattle.lc_rated.proofs.run.run.Goals as goal
 
 pub is_done-requires-clause-small : goal.is_done-requires-clause-small
@@ -17,7 +17,7 @@ refine-requires-clause-some g c =
     let trees : Trees = g.R.Rater.trees c.args.rater.now in
     let roots : List Placed = roots_of trees in
     let few : length roots ≤ c.args.size = few_of c.args.size trees c.requires.least in
-    let test : stops c.args.size c.args.permille (cut_now roots c.loop-nodes.nodes) ≡ false = sym (now_stops c.args.size c.args.permille roots c.loop-nodes.nodes c.loop-nodes.invariant.cut) ∙ sym c.loop-nodes-test.ensures in
+    let test : stops c.args.size c.args.permille (cut_now roots c.loop-nodes.nodes) ≡ false = now_test false c.args.size c.args.permille roots c.loop-nodes.nodes c.loop-nodes.invariant.cut c.loop-nodes-test.ensures in
     subst (λ (t : Trees). 0 < greatest_key (cut_now (roots_of t) c.loop-nodes.nodes)) (sym c.loop-nodes.invariant.trees) (key_positive c.args.size c.args.permille (cut_now roots c.loop-nodes.nodes) test)
 
 pub refine-requires-clause-room : goal.refine-requires-clause-room
@@ -25,7 +25,7 @@ refine-requires-clause-room g c =
     let trees : Trees = g.R.Rater.trees c.args.rater.now in
     let roots : List Placed = roots_of trees in
     let few : length roots ≤ c.args.size = few_of c.args.size trees c.requires.least in
-    let test : stops c.args.size c.args.permille (cut_now roots c.loop-nodes.nodes) ≡ false = sym (now_stops c.args.size c.args.permille roots c.loop-nodes.nodes c.loop-nodes.invariant.cut) ∙ sym c.loop-nodes-test.ensures in
+    let test : stops c.args.size c.args.permille (cut_now roots c.loop-nodes.nodes) ≡ false = now_test false c.args.size c.args.permille roots c.loop-nodes.nodes c.loop-nodes.invariant.cut c.loop-nodes-test.ensures in
     let below : length c.loop-nodes.nodes.marks.items < c.args.size = now_below c.args.size c.args.permille roots c.loop-nodes.nodes few c.loop-nodes.invariant.cut c.loop-nodes.invariant.going test in
     less_room (length c.loop-nodes.nodes.marks.items + 1) c.args.size c.loop-nodes.nodes (omega (arith, below)) c.loop-nodes.invariant.room
 
@@ -34,7 +34,7 @@ loop-nodes-smaller g c =
     let trees : Trees = g.R.Rater.trees c.args.rater.now in
     let roots : List Placed = roots_of trees in
     let few : length roots ≤ c.args.size = few_of c.args.size trees c.requires.least in
-    let test : stops c.args.size c.args.permille (cut_now roots c.loop-nodes.nodes) ≡ false = sym (now_stops c.args.size c.args.permille roots c.loop-nodes.nodes c.loop-nodes.invariant.cut) ∙ sym c.loop-nodes-test.ensures in
+    let test : stops c.args.size c.args.permille (cut_now roots c.loop-nodes.nodes) ≡ false = now_test false c.args.size c.args.permille roots c.loop-nodes.nodes c.loop-nodes.invariant.cut c.loop-nodes-test.ensures in
     let below : length c.loop-nodes.nodes.marks.items < c.args.size = now_below c.args.size c.args.permille roots c.loop-nodes.nodes few c.loop-nodes.invariant.cut c.loop-nodes.invariant.going test in
     omega (arith, below, c.refine.ensures.more)
 
@@ -43,7 +43,7 @@ loop-nodes-preserved g c =
     let trees : Trees = g.R.Rater.trees c.args.rater.now in
     let roots : List Placed = roots_of trees in
     let few : length roots ≤ c.args.size = few_of c.args.size trees c.requires.least in
-    let test : stops c.args.size c.args.permille (cut_now roots c.loop-nodes.nodes) ≡ false = sym (now_stops c.args.size c.args.permille roots c.loop-nodes.nodes c.loop-nodes.invariant.cut) ∙ sym c.loop-nodes-test.ensures in
+    let test : stops c.args.size c.args.permille (cut_now roots c.loop-nodes.nodes) ≡ false = now_test false c.args.size c.args.permille roots c.loop-nodes.nodes c.loop-nodes.invariant.cut c.loop-nodes-test.ensures in
     let some : length roots ≤ length c.loop-nodes.nodes.marks.items = c.loop-nodes.invariant.cut.some in
     record {
       trees = c.refine.ensures.trees ∙ c.loop-nodes.invariant.trees;
@@ -55,7 +55,6 @@ loop-nodes-preserved g c =
 
 pub answer_at-requires-clause-roots : goal.answer_at-requires-clause-roots
 answer_at-requires-clause-roots g c =
-    let trees : Trees = g.R.Rater.trees c.args.rater.now in
     omega (arith, c.loop-nodes.invariant.cut.some, c.len-roots.ensures, c.begin.ensures.count, c.begin.new.nodes.marks.ok.0)
 
 pub answer_at-requires-clause-most : goal.answer_at-requires-clause-most
@@ -71,7 +70,7 @@ returns-clause-value g c =
     let trees : Trees = g.R.Rater.trees c.args.rater.now in
     let roots : List Placed = roots_of trees in
     let few : length roots ≤ c.args.size = few_of c.args.size trees c.requires.least in
-    let test : stops c.args.size c.args.permille (cut_now roots c.loop-nodes.nodes) ≡ true = sym (now_stops c.args.size c.args.permille roots c.loop-nodes.nodes c.loop-nodes.invariant.cut) ∙ sym c.loop-nodes-test.ensures in
+    let test : stops c.args.size c.args.permille (cut_now roots c.loop-nodes.nodes) ≡ true = now_test true c.args.size c.args.permille roots c.loop-nodes.nodes c.loop-nodes.invariant.cut c.loop-nodes-test.ensures in
     now_answer c.args.size c.args.permille trees c.loop-nodes.nodes few c.loop-nodes.invariant.cut c.loop-nodes.invariant.going test c.answer_at.result c.answer_at.ensures.size (omega (arith, c.answer_at.ensures.evals, c.len-roots.ensures, c.begin.ensures.count, c.begin.new.nodes.marks.ok.0)) c.answer_at.ensures.est c.answer_at.ensures.bound
 
 pub loop-nodes-init : goal.loop-nodes-init

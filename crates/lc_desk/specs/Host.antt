@@ -1,5 +1,6 @@
 -- What the desk of the system tells: which slots were begun, and its counts, but no contents.
-use Rattle.std.specs.Prelude.{Bool, false, None}
+use Rattle.std.specs.Prelude.{◌≡◌, ℕ, List, Bool, false, Option, None, Some}
+use Rattle.std.specs.Io.KnownBytes.{Appends}
 use Rattle.lc_desk.specs.Desk.{DeskState, SlotState}
 use Rattle.lc_desk.specs.declared.tally.Tally.{Tally}
 
@@ -28,3 +29,7 @@ untold_state = record {
   shorts = 0;
   steady = false;
 }
+
+-- a file that was made for a slot has these bytes more, where it tells what it holds
+abbrev pub HasMore : {F : Type 0} → (F → Option (List ℕ)) → List ℕ → Option F → Option F → Type 0
+HasMore {F} contents piece before now = (f : F) → before ≡ Some f → (g : F) × (now ≡ Some g) × Appends (contents f) (contents g) piece

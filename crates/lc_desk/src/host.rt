@@ -1,6 +1,9 @@
 // The desk of the operating system: files by their paths, Report on standard output, Note on standard error.
-ghost use Rattle.std.specs.Prelude.{◌≡◌, ◌≤◌, OnOk, length, IsErrOf};
-ghost use Rattle.lc_desk.specs.Host.{tally_state, untold_state};
+ghost use Rattle.std.specs.Prelude.{◌≡◌, ◌≢◌, ◌<◌, ◌≤◌, ℕ, [], List, length, None, Some, OnOk, OnErr, IsErrOf, IsSome, Err};
+ghost use Rattle.lc_desk.specs.Causes.{Rose};
+ghost use Rattle.lc_desk.specs.Desk.{CanPut, OnlyReads, OnlySlot, Told, TookPart, appended, fault_at, opened, slot_at};
+ghost use Rattle.lc_desk.specs.Effects.{after_begin, after_put, after_read};
+ghost use Rattle.lc_desk.specs.Host.{HasMore, tally_state, untold_state};
 
 use crate::streams::{put_stop, read_within, write_piece};
 use crate::tally::Tally;
@@ -76,7 +79,10 @@ fn create<R: Files>(runtime: &R, name: &str) -> io::Result<R::File> {
 }
 
 // Makes the file of a slot, in place of the one that the slot had.
-fn make<R: Files>(runtime: &R, name: &str, file: &mut Option<R::File>) -> Result<(), PutStop> {
+fn make<R: Files>(runtime: &R, name: &str, file: &mut Option<R::File>) -> Result<(), PutStop>
+    ensures made { OnOk result (IsSome file.new) }
+    ensures kept { OnErr result (file.new ≡ file.old) }
+{
     match create(runtime, name) {
         Ok(made) => {
             *file = Some(made);
@@ -87,7 +93,10 @@ fn make<R: Files>(runtime: &R, name: &str, file: &mut Option<R::File>) -> Result
 }
 
 // Writes a piece to a slot's file. A slot without one takes nothing.
-fn write_to<F: Write>(file: &mut Option<F>, piece: &[u8]) -> Result<(), PutStop> {
+fn write_to<F: Write>(file: &mut Option<F>, piece: &[u8]) -> Result<(), PutStop>
+    ensures ok { OnOk result (HasMore F.contents piece.now file.old file.new) }
+    ensures none { file.old ≡ None → result ≡ Err PutStop.Failed }
+{
     match file {
         Some(file) => write_piece(file, piece),
         None => Err(PutStop::Failed),
@@ -97,7 +106,23 @@ fn write_to<F: Write>(file: &mut Option<F>, piece: &[u8]) -> Result<(), PutStop>
 impl<'a, R: Files + Print, E: Print> Desk for HostDesk<'a, R, E> {
     ghost state = { λ d. tally_state d.tally };
 
-    fn read(&mut self, name: &str, limit: u64, into: &mut Vec<u8>) -> Result<(), ReadStop> {
+    fn read(&mut self, name: &str, limit: u64, into: &mut Vec<u8>) -> Result<(), ReadStop>
+        // The trait's clauses.
+        ensures bytes { OnOk result (Told (tally_state self.old.tally).held name.now (λ file. file ≡ Some into.new.items)) }
+        ensures within { OnOk result (length into.new.items ≤ limit) }
+        ensures emptied { OnErr result (into.new.items ≡ []) }
+        ensures absent { IsErrOf result ReadStop.Absent → Rose (tally_state self.old.tally).absents (tally_state self.new.tally).absents }
+        ensures absent_told { IsErrOf result ReadStop.Absent → Told (tally_state self.old.tally).held name.now (λ file. file ≡ None) }
+        ensures long { IsErrOf result ReadStop.Long → Rose (tally_state self.old.tally).longs (tally_state self.new.tally).longs }
+        ensures long_told { IsErrOf result ReadStop.Long → Told (tally_state self.old.tally).held name.now (λ file. (bytes : List ℕ) × (file ≡ Some bytes) × (limit < length bytes)) }
+        ensures failed { IsErrOf result ReadStop.Failed → Rose (tally_state self.old.tally).faults.reads (tally_state self.new.tally).faults.reads }
+        ensures same { OnlyReads (tally_state self.old.tally) (tally_state self.new.tally) }
+
+        // Exactly what it counts, and which slots it opens.
+        ensures after { tally_state self.new.tally ≡ after_read result (tally_state self.old.tally) }
+        // The files of the slots stay as they are.
+        ensures files_kept { (self.new.picture ≡ self.old.picture) × (self.new.bounds ≡ self.old.bounds) }
+    {
         into.clear();
         let outcome = read_file(self.runtime, name, limit, into);
         if outcome.is_err() {
@@ -107,7 +132,23 @@ impl<'a, R: Files + Print, E: Print> Desk for HostDesk<'a, R, E> {
         outcome
     }
 
-    fn begin(&mut self, slot: Slot, name: &str) -> Result<(), PutStop> {
+    fn begin(&mut self, slot: Slot, name: &str) -> Result<(), PutStop>
+        // The trait's clauses.
+        ensures begun { OnOk result (slot_at (tally_state self.new.tally).slots slot ≡ opened name.now (slot_at (tally_state self.old.tally).slots slot)) }
+        ensures kept { OnErr result ((tally_state self.new.tally).slots ≡ (tally_state self.old.tally).slots) }
+        ensures failed { IsErrOf result PutStop.Failed → Rose (fault_at (tally_state self.old.tally).faults slot) (fault_at (tally_state self.new.tally).faults slot) }
+        ensures memory { IsErrOf result PutStop.Memory → Rose (tally_state self.old.tally).shorts (tally_state self.new.tally).shorts }
+        ensures same { OnlySlot slot (tally_state self.old.tally) (tally_state self.new.tally) }
+
+        // Exactly what it counts, and which slots it opens.
+        ensures after { tally_state self.new.tally ≡ after_begin result slot [] (tally_state self.old.tally) }
+        // The files, of which a refusal leaves each as it was.
+        ensures picture_made { OnOk result (slot ≡ Slot.Picture → IsSome self.new.picture) }
+        ensures bounds_made { OnOk result (slot ≡ Slot.Bounds → IsSome self.new.bounds) }
+        ensures files_kept { OnErr result ((self.new.picture ≡ self.old.picture) × (self.new.bounds ≡ self.old.bounds)) }
+        ensures other_picture { slot ≢ Slot.Picture → self.new.picture ≡ self.old.picture }
+        ensures other_bounds { slot ≢ Slot.Bounds → self.new.bounds ≡ self.old.bounds }
+    {
         let outcome = match slot {
             Slot::Picture => make(self.runtime, name, &mut self.picture),
             Slot::Bounds => make(self.runtime, name, &mut self.bounds),
@@ -118,7 +159,25 @@ impl<'a, R: Files + Print, E: Print> Desk for HostDesk<'a, R, E> {
         outcome
     }
 
-    fn put(&mut self, slot: Slot, piece: &[u8]) -> Result<(), PutStop> {
+    fn put(&mut self, slot: Slot, piece: &[u8]) -> Result<(), PutStop>
+        requires { CanPut (tally_state self.old.tally).slots slot }
+        // The trait's clauses.
+        ensures put { OnOk result (slot_at (tally_state self.new.tally).slots slot ≡ appended piece.now (slot_at (tally_state self.old.tally).slots slot)) }
+        ensures failed { IsErrOf result PutStop.Failed → Rose (fault_at (tally_state self.old.tally).faults slot) (fault_at (tally_state self.new.tally).faults slot) }
+        ensures part { IsErrOf result PutStop.Failed → TookPart piece.now (slot_at (tally_state self.old.tally).slots slot) (slot_at (tally_state self.new.tally).slots slot) }
+        ensures memory { IsErrOf result PutStop.Memory → Rose (tally_state self.old.tally).shorts (tally_state self.new.tally).shorts }
+        ensures kept { IsErrOf result PutStop.Memory → (tally_state self.new.tally).slots ≡ (tally_state self.old.tally).slots }
+        ensures same { OnlySlot slot (tally_state self.old.tally) (tally_state self.new.tally) }
+
+        // Exactly what it counts, and which slots it opens.
+        ensures after { tally_state self.new.tally ≡ after_put result slot [] (tally_state self.old.tally) }
+
+        // The files take what is put, where they tell what they hold.
+        ensures picture { OnOk result (slot ≡ Slot.Picture → HasMore R.File.contents piece.now self.old.picture self.new.picture) }
+        ensures bounds { OnOk result (slot ≡ Slot.Bounds → HasMore R.File.contents piece.now self.old.bounds self.new.bounds) }
+        ensures other_picture { slot ≢ Slot.Picture → self.new.picture ≡ self.old.picture }
+        ensures other_bounds { slot ≢ Slot.Bounds → self.new.bounds ≡ self.old.bounds }
+    {
         let outcome = match slot {
             Slot::Picture => write_to(&mut self.picture, piece),
             Slot::Bounds => write_to(&mut self.bounds, piece),

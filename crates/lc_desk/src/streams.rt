@@ -1,7 +1,8 @@
 // Whole reads and writes over the single ones of std.
-ghost use Rattle.std.specs.Prelude.{◌≡◌, ◌≤◌, ◌<◌, ◌++◌, ◌+◌, ℕ, length, take, OnOk, OnErr, IsErrOf, IfOk, IfSome};
+ghost use Rattle.std.specs.Prelude.{◌≡◌, ◌≤◌, ◌<◌, ◌++◌, ◌+◌, ◌↔◌, ℕ, length, take, OnOk, OnErr, IsErrOf, IfOk, IfSome};
 ghost use Rattle.std.specs.Io.{ReadsAtMost, WritesAtMost};
 ghost use Rattle.std.specs.Io.KnownBytes.{Appends, Consumes, IsAtEnd, Keeps};
+ghost use Rattle.std.specs.IoError.{error_kind};
 
 use crate::{PutStop, ReadStop};
 use std::io;
@@ -71,7 +72,9 @@ pub(crate) fn read_within<F: Read>(
 }
 
 // The stop that an error of std gives a begin or a put.
-pub(crate) fn put_stop(error: &io::Error) -> PutStop {
+pub(crate) fn put_stop(error: &io::Error) -> PutStop
+    ensures { (result ≡ PutStop.Memory) ↔ (error_kind error.now ≡ ErrorKind.OutOfMemory) }
+{
     match error.kind() {
         ErrorKind::OutOfMemory => PutStop::Memory,
         _ => PutStop::Failed,

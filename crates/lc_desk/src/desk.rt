@@ -1,5 +1,5 @@
 // The outside world as the program sees it.
-ghost use Rattle.std.specs.Prelude.{◌≡◌, ◌<◌, ◌≤◌, ℕ, [], List, length, take, OnOk, OnErr, IsErrOf, Some, None, IfSome};
+ghost use Rattle.std.specs.Prelude.{◌≡◌, ◌<◌, ◌≤◌, ℕ, [], List, length, OnOk, OnErr, IsErrOf, Some, None};
 ghost use Rattle.lc_desk.specs.Causes.{Rose};
 ghost use Rattle.lc_desk.specs.Desk.{DeskState, OnlyReads, OnlySlot, CanPut, Told, slot_at, fault_at, opened, appended, TookPart};
 ghost use Rattle.lc_desk.specs.Words.{slot_word, read_stop_text, put_stop_text};

@@ -1,5 +1,5 @@
 // One slot of a desk in memory.
-ghost use Rattle.std.specs.Prelude.{◌≡◌, ◌≤◌, IsErrOf, ◌++◌, [], OnOk, OnErr, IfErr, None, Some, MatchOption, IsOkUnless, Err, ◌⊎◌};
+ghost use Rattle.std.specs.Prelude.{◌≡◌, ◌≤◌, IsErrOf, ◌++◌, OnOk, OnErr, IfErr, None, Some, MatchOption, IsOkUnless, Err, ◌⊎◌};
 ghost use Rattle.lc_desk.specs.Causes.{raised};
 ghost use Rattle.lc_desk.specs.Desk.{TookPart};
 ghost use Rattle.lc_desk.specs.Effects.{faults_after, shorts_after, slot_after_begin, slot_after_put, part_of};

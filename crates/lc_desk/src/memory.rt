@@ -1,5 +1,5 @@
 // A desk in memory, whose calls can be made to fail.
-ghost use Rattle.std.specs.Prelude.{◌≡◌, ◌==◌, ◌<◌, ◌≤◌, length, IsErrOf, ℕ, [], List, OnOk, OnErr, Some, None, false, if◌then◌else◌, MatchOption, IsOkUnless, Err, ◌⊎◌, IfSome};
+ghost use Rattle.std.specs.Prelude.{◌≡◌, ◌==◌, ◌<◌, ◌≤◌, length, IsErrOf, ℕ, [], List, OnOk, OnErr, Some, None, false, if◌then◌else◌, MatchOption, IsOkUnless, Err, ◌⊎◌};
 ghost use Rattle.std.specs.Str.{bytes_eq};
 ghost use Rattle.lc_desk.specs.Causes.{Rose};
 ghost use Rattle.lc_desk.specs.Desk.{slot_at, fault_at, opened, appended, TookPart, OnlyReads, OnlySlot, CanPut, Told};

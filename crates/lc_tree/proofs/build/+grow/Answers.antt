@@ -85,11 +85,10 @@ pub returns-clause-words : goal.returns-clause-words
 returns-clause-words g t c =
     let moved = length_permutation c.args.lights.now c.sort_along.new.lights c.sort_along.ensures.permutation in
     let front = c.split_at_mut-left.ensures.front_len in
-    let back : length c.split_at_mut-left.result.1.now ≡ length c.args.lights.now - length c.args.lights.now / 2 = omega (arith, c.split_at_mut-left.ensures.back_len, moved) in
-    after_both c.args.words.now c.next_word-word.new.self c.grow.new.words c.grow-2.new.words (length c.args.lights.now) (length c.args.lights.now / 2) (omega (arith, c.if-half-eq0.false)) (omega (arith, c.requires.some))
-    c.next_word-word.ensures.after
-    (c.in_ok-a.ensures.words ∙ ap (λ n. after c.next_word-word.new.self (2 * n - 1)) front)
-    (c.in_ok-b.ensures.words ∙ ap (λ n. after c.grow.new.words (2 * n - 1)) back)
+    let back = c.split_at_mut-left.ensures.back_len in
+    after_both c.args.words.now c.next_word-word.new.self c.grow.new.words c.grow-2.new.words (length c.split_at_mut-left.result.0.now) (length c.split_at_mut-left.result.1.now) (length c.args.lights.now)
+    (omega (arith, front, c.if-half-eq0.false)) (omega (arith, back, moved, c.requires.some)) (omega (arith, front, back, moved))
+    c.next_word-word.ensures.after c.in_ok-a.ensures.words c.in_ok-b.ensures.words
 
 pub returns-clause-grown : goal.returns-clause-grown
 returns-clause-grown g t c =

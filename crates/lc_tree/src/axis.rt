@@ -1,5 +1,5 @@
 // The axes of space.
-ghost use Rattle.std.specs.Prelude.{◌≡◌, ◌≤◌};
+ghost use Rattle.std.specs.Prelude.{◌≡◌};
 ghost use Rattle.lc_tree.specs.Build.{coordinate};
 
 use lc_num::Vec3;

@@ -1,8 +1,7 @@
 // Building the rows of a tree.
-ghost use Rattle.std.specs.Prelude.{◌≡◌, ℕ, ◌+◌, ◌*◌, ◌-◌, ◌^◌, ◌<◌, ◌≤◌, List, All, length, map, take, IfOk, vec_len, if◌then◌else◌};
-ghost use Rattle.std.specs.List.{enumerate_from};
+ghost use Rattle.std.specs.Prelude.{◌≡◌, ◌+◌, ◌*◌, ◌-◌, ◌^◌, ◌<◌, ◌≤◌, List, All, length, IfOk, vec_len, if◌then◌else◌};
 ghost use Rattle.lc_words.specs.Lcg.{Lcg};
-ghost use Rattle.lc_tree.specs.Build.{halved, numbered, power_weight, takes_left, tree_of};
+ghost use Rattle.lc_tree.specs.Build.{numbered, power_weight, takes_left, tree_of};
 ghost use Rattle.lc_tree.specs.Grown.{Grown, IsValid, StandsIn};
 ghost use Rattle.lc_tree.specs.Rows.{IsLaidIf, read_rows};
 ghost use Rattle.lc_words.specs.Words.{after, stream_word, word_of};

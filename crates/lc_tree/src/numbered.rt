@@ -1,5 +1,5 @@
 // Lights with their numbers, and the order in which they are halved.
-ghost use Rattle.std.specs.Prelude.{◌≡◌, ◌<◌, ◌≤◌, All, length, IsPermutation};
+ghost use Rattle.std.specs.Prelude.{◌≡◌, ◌<◌, All, length, IsPermutation};
 ghost use Rattle.std.specs.List.Sorted.{IsSortedBy};
 ghost use Rattle.lc_num.specs.Vectors.{Within};
 ghost use Rattle.lc_tree.specs.Build.{comes_before, extents, longest, longest_axis};

@@ -1,5 +1,5 @@
 // The tree over three lights, worked out by hand, and the tree over none.
-ghost use Rattle.std.specs.Prelude.{◌≡◌, ◌≤◌, ◌^◌, All, length, pos};
+ghost use Rattle.std.specs.Prelude.{◌≤◌, ◌^◌, pos};
 ghost use Rattle.lc_num.specs.Vectors.{Within};
 ghost use Rattle.lc_terms.specs.Lamps.{lamp_laws, lamp_meaning, IsLamp};
 

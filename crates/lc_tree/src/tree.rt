@@ -1,5 +1,5 @@
 // Trees of lights.
-ghost use Rattle.std.specs.Prelude.{◌≡◌, ℕ, ◌<◌, ◌≤◌, ◌^◌, All, length, slice_get, Some, IsSomeAnd, IfOk};
+ghost use Rattle.std.specs.Prelude.{◌≡◌, ◌<◌, ◌≤◌, ◌^◌, All, length, slice_get, Some, IsSomeAnd, IfOk};
 ghost use Rattle.lc_tree.specs.Build.{tree_of, weight_of};
 ghost use Rattle.lc_tree.specs.Cover.{IsClumpOf, IsLeaderOf};
 ghost use Rattle.lc_tree.specs.Node.{count_of, kids_of, node_of};

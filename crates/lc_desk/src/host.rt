@@ -118,7 +118,7 @@ impl<'a, R: Files + Print, E: Print> Desk for HostDesk<'a, R, E> {
         ensures failed { IsErrOf result ReadStop.Failed → Rose (tally_state self.old.tally).faults.reads (tally_state self.new.tally).faults.reads }
         ensures same { OnlyReads (tally_state self.old.tally) (tally_state self.new.tally) }
 
-        // Exactly what it counts, and which slots it opens.
+        // Exactly what it counts.
         ensures after { tally_state self.new.tally ≡ after_read result (tally_state self.old.tally) }
         // The files of the slots stay as they are.
         ensures files_kept { (self.new.picture ≡ self.old.picture) × (self.new.bounds ≡ self.old.bounds) }
@@ -169,7 +169,7 @@ impl<'a, R: Files + Print, E: Print> Desk for HostDesk<'a, R, E> {
         ensures kept { IsErrOf result PutStop.Memory → (tally_state self.new.tally).slots ≡ (tally_state self.old.tally).slots }
         ensures same { OnlySlot slot (tally_state self.old.tally) (tally_state self.new.tally) }
 
-        // Exactly what it counts, and which slots it opens.
+        // Exactly what it counts.
         ensures after { tally_state self.new.tally ≡ after_put result slot [] (tally_state self.old.tally) }
 
         // The files take what is put, where they tell what they hold.

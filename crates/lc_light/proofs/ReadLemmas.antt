@@ -1,18 +1,17 @@
 -- The lines seen so far, and what they say of the text.
-use Rattle.std.proofs.Common.{◌≡◌, ℕ, ◌+◌, ◌<◌, ◌≤◌, Bool, true, false, cond, List, [], ◌∷◌, ◌++◌, length, Option, Some, None, option_map, refl, sym, ap, ◌∙◌, append_assoc, arith, add-zero, length-append, subst}
-use Rattle.std.specs.Prelude.{filter, flat_map, sum_by}
+use Rattle.std.proofs.Common.{◌≡◌, ℕ, ◌+◌, ◌≤◌, List, [], ◌∷◌, ◌++◌, length, Option, Some, None, option_map, refl, sym, ap, ◌∙◌, arith, add-zero, length-append, subst}
+use Rattle.std.specs.Prelude.{flat_map, sum_by}
 use Rattle.std.specs.List.{cons_option}
-use Rattle.std.proofs.lemmas.List.{append-nil, flat_map_more}
+use Rattle.std.proofs.lemmas.List.{flat_map_more}
 use Rattle.std.proofs.lemmas.List.Elements.{filter_map-append}
 use Rattle.std.proofs.lemmas.List.Sums.{sum_by_push}
-use Rattle.std.proofs.lemmas.Bool.{lt-ltb, le-ltb}
 use Rattle.lc_words.specs.Lcg.{Lcg}
 use Rattle.lc_words.specs.Words.{after, word_of, stream_of, stream_word}
 use Rattle.lc_words.proofs.WordLaws.{later}
 use Rattle.lc_light.specs.Areas.{samples_from}
 use Rattle.lc_scan.specs.Lines.{Line, lines}
 use Rattle.lc_scan.specs.Fields.{fields}
-use Rattle.lc_scan.specs.Spoken.{spoken, spoken_in}
+use Rattle.lc_scan.specs.Spoken.{spoken_in}
 use Rattle.lc_scan.proofs.ReaderLemmas as reader
 use Rattle.lc_light.specs.Kinds.{kind_number}
 use Rattle.lc_light.specs.LightLine.{kind_of, source_of}

@@ -16,8 +16,10 @@ use Rattle.lc_light.specs.declared.kind.Kind.{Kind}
 use Rattle.lc_light.specs.declared.kind.Kind.TheVariants as kind
 use Rattle.lc_light.specs.declared.source.Source.{Source}
 use Rattle.lc_light.specs.Sources.{count}
-use Rattle.lc_light.specs.LightLine.{whole_number, value, first_kind, vector_tests, side_tests, power_tests, samples_test, direction_test, unless, area_tests, shape_tests, vector_at, power_at, value_tests, value_count, tests, room_test, point, sun, area, source_by, source_of, keyword_of, kind_by, kind_of}
-use Rattle.lc_light.proofs.ValueLemmas.{found, passed, side_tests_after, power_tests_after, vector_after, power_after, whole_after}
+use Rattle.lc_scan.specs.LineTests.{first_kind, unless}
+use Rattle.lc_light.specs.LightLine.{whole_number, value, vector_tests, side_tests, power_tests, samples_test, direction_test, area_tests, shape_tests, vector_at, power_at, value_tests, value_count, tests, room_test, point, sun, area, source_by, source_of, keyword_of, kind_by, kind_of}
+use Rattle.lc_scan.proofs.LineTestLemmas.{found, passed, first_kind-unless}
+use Rattle.lc_light.proofs.ValueLemmas.{side_tests_after, power_tests_after, vector_after, power_after, whole_after}
 
 -- ---- points and suns
 
@@ -61,15 +63,11 @@ sun_last values rest direction h p v =
     from_power values rest (direction_test (vector_at 0 values) ∷ []) h ∙ passed (power_tests 0 rest) (direction_test (vector_at 0 values) ∷ []) p
     ∙ ap (λ (w : Vec3). first_kind (direction_test w ∷ [])) v
 
-unless_by : (b x : Bool) (k : Kind) → b ≡ x → first_kind (unless b k ∷ []) ≡ cond x None (Some k)
-unless_by true x k e = rw (← e) refl
-unless_by false x k e = rw (← e) refl
-
 pub sun_zero : (values rest : List (List ℕ)) (direction : Vec3) → HasVector values rest → first_kind (power_tests 0 rest) ≡ None → vector_at 0 values ≡ direction → nat_lt 0 (square direction) ≡ false → first_kind (value_tests keyword.Sun values) ≡ Some kind.NoDirection
-sun_zero values rest direction h p v z = sun_last values rest direction h p v ∙ unless_by (nat_lt 0 (square direction)) false kind.NoDirection z
+sun_zero values rest direction h p v z = sun_last values rest direction h p v ∙ first_kind-unless (nat_lt 0 (square direction)) false kind.NoDirection [] z
 
 pub sun_passes : (values rest : List (List ℕ)) (direction : Vec3) → HasVector values rest → first_kind (power_tests 0 rest) ≡ None → vector_at 0 values ≡ direction → nat_lt 0 (square direction) ≡ true → first_kind (value_tests keyword.Sun values) ≡ None
-sun_passes values rest direction h p v z = sun_last values rest direction h p v ∙ unless_by (nat_lt 0 (square direction)) true kind.NoDirection z
+sun_passes values rest direction h p v z = sun_last values rest direction h p v ∙ first_kind-unless (nat_lt 0 (square direction)) true kind.NoDirection [] z
 
 pub sun_is : (values rest : List (List ℕ)) (direction : Vec3) (power : Power) → rest ≡ drop 3 values → vector_at 0 values ≡ direction → power_at 0 rest ≡ power → sun values ≡ record { toward = scaled direction 16384; power = power }
 unfolding sun
@@ -144,12 +142,6 @@ area_count values first second third rest h =
     to_power values first second third h.sides ∙ passed (power_tests 0 third) (count_test values) h.power
     ∙ ap (λ (o : Result ℕ NumFault). first_kind (samples_test o ∷ [])) (whole_after 12 values rest (fourth_place values first second third rest h))
 
-pub single : (o : Option Kind) (k : Kind) → o ≡ Some k → first_kind (o ∷ []) ≡ Some k
-single o k e = ap (λ (t : Option Kind). first_kind (t ∷ [])) e
-
-pub single_passed : (o : Option Kind) → o ≡ None → first_kind (o ∷ []) ≡ None
-single_passed o e = ap (λ (t : Option Kind). first_kind (t ∷ [])) e
-
 -- the values of an area light where they are read
 pub record AreValues (values first second third rest : List (List ℕ)) (made : Area) : Type 0 where
   pub corner : vector_at 0 values ≡ made.corner
@@ -186,9 +178,9 @@ unfolding value_tests
 shape_left values made h = passed (area_tests values) (shape_tests (area values)) h.tests ∙ ap (λ (a : Area). first_kind (shape_tests a)) h.area
 
 two_tests : (b c x y : Bool) → b ≡ x → c ≡ y → first_kind (unless b kind.Range ∷ unless c kind.NoArea ∷ []) ≡ cond x (cond y None (Some kind.NoArea)) (Some kind.Range)
-two_tests true true x y e f = rw (← e, ← f) refl
-two_tests true false x y e f = rw (← e, ← f) refl
-two_tests false c x y e f = rw (← e) refl
+two_tests b c x y e f =
+    first_kind-unless b x kind.Range (unless c kind.NoArea ∷ []) e
+    ∙ ap (λ (o : Option Kind). cond x o (Some kind.Range)) (first_kind-unless c y kind.NoArea [] f)
 
 pub area_corners : (values : List (List ℕ)) (made : Area) → HasArea values made → has_places made ≡ false → first_kind (value_tests keyword.Area values) ≡ Some kind.Range
 area_corners values made h e = shape_left values made h ∙ two_tests (has_places made) (spans made) false (spans made) e refl
@@ -222,14 +214,10 @@ source_is fs values word key made h e =
 values_left : (fs values : List (List ℕ)) (word : List ℕ) → fs ≡ word ∷ values → length fs ≡ 1 + length values
 values_left fs values word e = omega (arith, ap (λ (ws : List (List ℕ)). length ws) e)
 
-then_tests : (b x : Bool) (k : Kind) (later : List (Option Kind)) → b ≡ x → first_kind (unless b k ∷ later) ≡ cond x (first_kind later) (Some k)
-then_tests true x k later e = rw (← e) refl
-then_tests false x k later e = rw (← e) refl
-
 pub wrong_count : (n : ℕ) (fs values : List (List ℕ)) (word : List ℕ) (key : Keyword) → HasKeyword fs values word key → length fs ≢ 1 + value_count key → kind_of n fs ≡ Some kind.FieldCount
 wrong_count n fs values word key h ne =
     by_keyword n fs values word key h
-    ∙ then_tests (eqb (length values) (value_count key)) false kind.FieldCount _ (ne_eqb _ _ (λ same. ne (values_left fs values word h.fields ∙ ap (λ m. 1 + m) same)))
+    ∙ first_kind-unless (eqb (length values) (value_count key)) false kind.FieldCount _ (ne_eqb _ _ (λ same. ne (values_left fs values word h.fields ∙ ap (λ m. 1 + m) same)))
 
 -- a line with a known keyword and the right number of fields
 pub record HasValues (fs values : List (List ℕ)) (word : List ℕ) (key : Keyword) : Type 0 where
@@ -242,7 +230,7 @@ enough fs values word key h = omega (arith, values_left fs values word h.keyword
 by_values : (n : ℕ) (fs values : List (List ℕ)) (word : List ℕ) (key : Keyword) → HasValues fs values word key → kind_of n fs ≡ first_kind (value_tests key values ++ room_test n (source_by key values) ∷ [])
 by_values n fs values word key h =
     by_keyword n fs values word key h.keyword
-    ∙ then_tests (eqb (length values) (value_count key)) true kind.FieldCount _ (eq-eqb _ _ (enough fs values word key h))
+    ∙ first_kind-unless (eqb (length values) (value_count key)) true kind.FieldCount _ (eq-eqb _ _ (enough fs values word key h))
 
 pub wrong_value : (n : ℕ) (fs values : List (List ℕ)) (word : List ℕ) (key : Keyword) (k : Kind) → HasValues fs values word key → first_kind (value_tests key values) ≡ Some k → kind_of n fs ≡ Some k
 wrong_value n fs values word key k h e = by_values n fs values word key h ∙ found (value_tests key values) _ k e
@@ -251,7 +239,7 @@ by_room : (n : ℕ) (fs values : List (List ℕ)) (word : List ℕ) (key : Keywo
     → kind_of n fs ≡ cond x None (Some kind.TooMany)
 by_room n fs values word key made x h e s r =
     by_values n fs values word key h ∙ passed (value_tests key values) (room_test n (source_by key values) ∷ []) e
-    ∙ ap (λ (found : Source). first_kind (room_test n found ∷ [])) s ∙ unless_by (leb (n + count made) 65536) x kind.TooMany r
+    ∙ ap (λ (found : Source). first_kind (room_test n found ∷ [])) s ∙ first_kind-unless (leb (n + count made) 65536) x kind.TooMany [] r
 
 pub no_room : (n : ℕ) (fs values : List (List ℕ)) (word : List ℕ) (key : Keyword) (made : Source) → HasValues fs values word key → first_kind (value_tests key values) ≡ None → source_by key values ≡ made → 65536 < n + count made → kind_of n fs ≡ Some kind.TooMany
 no_room n fs values word key made h e s lt = by_room n fs values word key made false h e s (lt-leb _ _ lt)

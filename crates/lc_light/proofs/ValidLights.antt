@@ -1,5 +1,5 @@
 -- The lights of a text without a fault are within their ranges.
-use Rattle.std.proofs.Common.{◌≡◌, ℕ, suc, ◌+◌, ◌/◌, ◌%◌, ◌^◌, ◌<◌, ◌≤◌, Bool, true, false, cond, List, [], ◌∷◌, ◌++◌, length, Option, Some, None, option_map, refl, sym, ap, subst, ◌∙◌, append_assoc, arith, length-append, nat_lt, le_trans}
+use Rattle.std.proofs.Common.{◌≡◌, ℕ, suc, ◌+◌, ◌/◌, ◌%◌, ◌^◌, ◌<◌, ◌≤◌, Bool, true, false, cond, List, [], ◌∷◌, ◌++◌, length, Option, Some, None, refl, sym, ap, subst, ◌∙◌, append_assoc, arith, length-append, nat_lt, le_trans}
 use Rattle.std.specs.Prelude.{All, flat_map, sum_by}
 use Rattle.std.specs.List.{cons_option, range_with_len}
 use Rattle.std.proofs.lemmas.List.{append-nil}
@@ -12,11 +12,12 @@ use Rattle.lc_num.proofs.ScaledLemmas.{scaled_within}
 use Rattle.lc_num.specs.Vectors.{cross}
 use Rattle.lc_words.specs.Words.{stream_of, stream_word}
 use Rattle.lc_words.proofs.WordLaws.{word_small}
-use Rattle.lc_num.specs.Faults.{Fault}
 use Rattle.lc_scan.specs.Lines.{Line}
 use Rattle.lc_scan.specs.Fields.{fields}
 use Rattle.lc_scan.specs.Spoken.{spoken}
-use Rattle.lc_scan.specs.Faults.{fault_then, first_fault}
+use Rattle.lc_scan.specs.Faults.{first_fault}
+use Rattle.lc_scan.proofs.LineTestLemmas.{no_kind}
+use Rattle.lc_scan.proofs.ReaderLemmas.{fault_then-none}
 use Rattle.lc_light.specs.Kinds.{kind_number}
 use Rattle.lc_light.specs.Areas.{IsArea, normal, sample, samples_from, share}
 use Rattle.lc_light.specs.Lights.{IsOmni, IsOriented, IsSun, AreLights}
@@ -24,7 +25,6 @@ use Rattle.lc_light.specs.LightLine.{kind_of, source_of}
 use Rattle.lc_light.specs.LightFile.{sources, fault_of, fault_in, lights}
 use Rattle.lc_light.specs.Sources.{IsSource, count, points, samples, suns, lights_of}
 use Rattle.lc_light.specs.declared.area.Area.{Area}
-use Rattle.lc_light.specs.declared.kind.Kind.{Kind}
 use Rattle.lc_light.specs.declared.source.Source.{Source}
 use Rattle.lc_light.specs.declared.source.Source.TheVariants as source
 use Rattle.lc_light.proofs.AreaLemmas.{place_by_within}
@@ -32,10 +32,6 @@ use Rattle.lc_light.proofs.LineRanges.{fine}
 use Rattle.lc_light.proofs.ReadLemmas.{one_source_more}
 
 -- ---- the sources
-
-none_then : (o : Option Kind) (n : ℕ) (later : Option Fault) → fault_then (option_map kind_number o) n later ≡ None → (o ≡ None) × (later ≡ None)
-none_then None n later h = (refl, h)
-none_then (Some kind) n later h = absurd cc
 
 -- sources within their ranges, and not too many
 record AreSources (ss : List Source) : Type 0 where
@@ -54,8 +50,9 @@ all_fine : (before later : List Line) → first_fault fault_of before later ≡ 
 unfolding first_fault
 all_fine before [] h valid = subst (λ (ls : List Line). AreSources (sources ls)) (sym (append-nil before)) valid
 all_fine before (l ∷ later) h valid =
-    let both = none_then (kind_of (sum_by count (sources before)) (fields l.bytes)) l.number (first_fault fault_of (before ++ l ∷ []) later) h in
-    subst (λ (ls : List Line). AreSources (sources ls)) (append_assoc before (l ∷ []) later) (all_fine (before ++ l ∷ []) later both.1 (with_line before l (source_of (fields l.bytes)) refl valid both.0))
+    let both = fault_then-none (fault_of before l) l.number (first_fault fault_of (before ++ l ∷ []) later) h in
+    let none = no_kind kind_number (kind_of (sum_by count (sources before)) (fields l.bytes)) both.0 in
+    subst (λ (ls : List Line). AreSources (sources ls)) (append_assoc before (l ∷ []) later) (all_fine (before ++ l ∷ []) later both.1 (with_line before l (source_of (fields l.bytes)) refl valid none))
 
 -- the sources of a text without a fault
 are_sources : (text : List ℕ) → fault_in text ≡ None → AreSources (sources (spoken text))

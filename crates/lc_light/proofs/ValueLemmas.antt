@@ -1,36 +1,9 @@
--- Tests in a row, and the values of a line that are still to come.
-use Rattle.std.proofs.Common.{◌≡◌, ℕ, ◌+◌, List, [], ◌∷◌, ◌++◌, drop, Option, Some, None, refl, sym, ap, ◌∙◌, add-zero}
+-- The values of a line after the first k.
+use Rattle.std.proofs.Common.{◌≡◌, ℕ, ◌+◌, List, [], drop, refl, sym, ap, ◌∙◌, add-zero}
 use Rattle.std.proofs.lemmas.List.{get_or-drop}
 use Rattle.lc_scan.specs.Decimal.{decimal_of}
 use Rattle.lc_scan.specs.Whole.{whole_of}
-use Rattle.lc_light.specs.declared.kind.Kind.{Kind}
-use Rattle.lc_light.specs.LightLine.{number, whole_number, first_kind, vector_tests, side_tests, power_tests, vector_at, power_at}
-
--- ---- lists of tests
-
--- a test that fails decides
-pub found : (xs ys : List (Option Kind)) (k : Kind) → first_kind xs ≡ Some k → first_kind (xs ++ ys) ≡ Some k
-found [] ys k e = absurd cc
-found (None ∷ xs) ys k e = found xs ys k e
-found (Some l ∷ xs) ys k e = e
-
--- tests that are passed leave it to the later ones
-pub passed : (xs ys : List (Option Kind)) → first_kind xs ≡ None → first_kind (xs ++ ys) ≡ first_kind ys
-passed [] ys e = refl
-passed (None ∷ xs) ys e = passed xs ys e
-passed (Some l ∷ xs) ys e = absurd cc
-
--- where all are passed, both parts are
-pub both : (xs ys : List (Option Kind)) → first_kind (xs ++ ys) ≡ None → (first_kind xs ≡ None) × (first_kind ys ≡ None)
-both [] ys e = (refl, e)
-both (None ∷ xs) ys e = both xs ys e
-both (Some l ∷ xs) ys e = absurd cc
-
-pub first_passed : (test : Option Kind) (later : List (Option Kind)) → first_kind (test ∷ later) ≡ None → (test ≡ None) × (first_kind later ≡ None)
-first_passed None later h = (refl, h)
-first_passed (Some kind) later h = absurd cc
-
--- ---- the values after the first k
+use Rattle.lc_light.specs.LightLine.{number, whole_number, vector_tests, side_tests, power_tests, vector_at, power_at}
 
 number_after : (k j : ℕ) (values rest : List (List ℕ)) → rest ≡ drop k values → number (k + j) values ≡ number j rest
 number_after k j values rest e = sym (ap (number j) e ∙ ap decimal_of (get_or-drop k values j []))

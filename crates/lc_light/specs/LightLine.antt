@@ -1,12 +1,13 @@
 -- One line of a light file: its source of light, and the tests that it has to pass.
-use Rattle.std.specs.Prelude.{ℕ, ◌+◌, ◌==◌, Bool, ◌&&◌, nat_lt, nat_le, List, [], ◌∷◌, ◌++◌, length, Option, Some, None, option_map, Result, Ok, Err, ℤ, pos, negsuc, unsigned_abs, if◌then◌else◌, codes, slice_index_or}
+use Rattle.std.specs.Prelude.{ℕ, ◌+◌, ◌==◌, ◌&&◌, nat_lt, nat_le, List, [], ◌∷◌, ◌++◌, length, Option, Some, None, option_map, Result, Ok, Err, ℤ, pos, negsuc, unsigned_abs, if◌then◌else◌, codes, slice_index_or}
 use Rattle.std.specs.Str.{bytes_eq}
 use Rattle.lc_num.specs.declared.vectors.Vec3.{Vec3}
 use Rattle.lc_num.specs.declared.channels.Power.{Power}
 use Rattle.lc_num.specs.Vectors.{square}
 use Rattle.lc_num.specs.Cosines.{scaled}
-use Rattle.lc_scan.specs.Decimal.{decimal_of}
+use Rattle.lc_scan.specs.Decimal.{decimal_of, units}
 use Rattle.lc_scan.specs.Whole.{whole_of}
+use Rattle.lc_scan.specs.LineTests.{first_kind, unless}
 use Rattle.lc_scan.specs.declared.fault.NumFault.{NumFault}
 use Rattle.lc_light.specs.Areas.{has_places, spans}
 use Rattle.lc_light.specs.Sources.{count}
@@ -35,11 +36,6 @@ number k values = decimal_of (slice_index_or values k [])
 -- the k-th value as a whole number
 abbrev pub whole_number : ℕ → List (List ℕ) → Result ℕ NumFault
 whole_number k values = whole_of (slice_index_or values k [])
-
--- the units of a number
-abbrev pub units : Result ℤ NumFault → ℤ
-units (Ok z) = z
-units (Err fault) = pos 0
 
 -- the value of a whole number
 abbrev pub value : Result ℕ NumFault → ℕ
@@ -84,9 +80,6 @@ source_of [] = None
 source_of (word ∷ values) = option_map (λ key. source_by key values) (keyword_of word)
 
 -- ---- the tests; each gives its kind where it fails
-
-abbrev pub unless : Bool → Kind → Option Kind
-unless passes kind = if passes then None else Some kind
 
 abbrev pub number_test : Result ℤ NumFault → Option Kind
 number_test (Err fault) = Some kind.Number
@@ -149,12 +142,6 @@ room_test so_far s = unless (nat_le (so_far + count s) 65536) kind.TooMany
 abbrev pub tests : ℕ → Keyword → List (List ℕ) → List (Option Kind)
 tests so_far key values =
     unless (length values == value_count key) kind.FieldCount ∷ (value_tests key values ++ room_test so_far (source_by key values) ∷ [])
-
--- the first kind that is there
-abbrev pub first_kind : List (Option Kind) → Option Kind
-first_kind [] = None
-first_kind (None ∷ later) = first_kind later
-first_kind (Some kind ∷ later) = Some kind
 
 abbrev pub kind_by : Option Keyword → ℕ → List (List ℕ) → Option Kind
 kind_by None so_far values = Some kind.Keyword

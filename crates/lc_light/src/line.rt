@@ -3,7 +3,8 @@ ghost use Rattle.std.specs.Prelude.{◌≡◌, ◌+◌, ◌<◌, ◌≤◌, ◌^
 ghost use Rattle.lc_num.specs.Vectors.{Within};
 ghost use Rattle.lc_scan.specs.Fields.{fields};
 ghost use Rattle.lc_light.specs.Sources.{IsSource, count};
-ghost use Rattle.lc_light.specs.LightLine.{point, sun, area, source_by, source_of, area_tests, value_tests, value_count, keyword_of, first_kind, kind_of};
+ghost use Rattle.lc_scan.specs.LineTests.{first_kind};
+ghost use Rattle.lc_light.specs.LightLine.{point, sun, area, source_by, source_of, area_tests, value_tests, value_count, keyword_of, kind_of};
 
 use crate::area::Area;
 use crate::keyword::Keyword;

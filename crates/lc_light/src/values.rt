@@ -1,7 +1,9 @@
 // The values of a line, one after the other.
 ghost use Rattle.std.specs.Prelude.{◌≡◌, ◌<◌, ◌≤◌, ◌^◌, length, drop, Some, None, IfOk, OnOk, MatchResult, unsigned_abs};
 ghost use Rattle.lc_num.specs.Vectors.{Within};
-ghost use Rattle.lc_light.specs.LightLine.{number, whole_number, units, value, vector_at, power_at, number_test, coordinate_test, intensity_test, samples_test, side_tests, vector_tests, power_tests, first_kind};
+ghost use Rattle.lc_scan.specs.Decimal.{units};
+ghost use Rattle.lc_scan.specs.LineTests.{first_kind};
+ghost use Rattle.lc_light.specs.LightLine.{number, whole_number, value, vector_at, power_at, number_test, coordinate_test, intensity_test, samples_test, side_tests, vector_tests, power_tests};
 
 use crate::area::MOST_COORDINATE;
 use crate::kind::Kind;

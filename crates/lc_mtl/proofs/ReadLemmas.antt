@@ -6,9 +6,11 @@ use Rattle.std.proofs.lemmas.Bool.{ltb-true}
 use Rattle.lc_scan.specs.Lines.{Line, lines}
 use Rattle.lc_scan.specs.Fields.{fields, rest}
 use Rattle.lc_scan.specs.Spoken.{spoken, spoken_in}
+use Rattle.lc_scan.proofs.LineTestLemmas.{no_kind}
 use Rattle.lc_scan.proofs.ReaderLemmas as reader
 use Rattle.lc_mtl.specs.Kinds.{kind_number}
-use Rattle.lc_mtl.specs.MtlLine.{entry_by, entry_of, keyword_of, kind_by, kind_of, first_kind, unless}
+use Rattle.lc_scan.specs.LineTests.{first_kind, unless}
+use Rattle.lc_mtl.specs.MtlLine.{entry_by, entry_of, keyword_of, kind_by, kind_of}
 use Rattle.lc_mtl.specs.MtlFile.{is_begin, begins, fault_of, fault_in, materials_in}
 use Rattle.lc_mtl.specs.Drafts.{taken}
 use Rattle.lc_mtl.specs.declared.entry.Entry.{Entry}
@@ -39,10 +41,6 @@ unfolding kind_of entry_of
 room held begun name [] none starts = absurd cc
 room held begun name (word ∷ values) none starts = room_by held begun (keyword_of word) name values none starts
 
-none_of : (o : Option Kind) → option_map kind_number o ≡ None → o ≡ None
-none_of None e = refl
-none_of (Some kind) e = absurd cc
-
 -- with a line more that has no fault there are not too many
 pub one_more_fits : (held : ℕ) (ls : List Line) (l : Line) → fault_of held ls l ≡ None → held + count_by begins ls ≤ 4096 → held + count_by begins (ls ++ l ∷ []) ≤ 4096
 one_more_fits held ls l good few = by_test (begins l) refl
@@ -52,7 +50,7 @@ one_more_fits held ls l good few = by_test (begins l) refl
 
     by_test : (b : Bool) → begins l ≡ b → held + count_by begins (ls ++ l ∷ []) ≤ 4096
     by_test true e =
-        let lt = room held (count_by begins ls) (rest l.bytes) (fields l.bytes) (none_of _ good) e in
+        let lt = room held (count_by begins ls) (rest l.bytes) (fields l.bytes) (no_kind kind_number _ good) e in
         omega (arith, one true e, lt)
     by_test false e = omega (arith, one false e, few)
 

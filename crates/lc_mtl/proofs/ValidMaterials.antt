@@ -6,13 +6,12 @@ use Rattle.std.proofs.Math.Nat.{min-le_right}
 use Rattle.std.proofs.lemmas.List.{append-nil}
 use Rattle.std.proofs.lemmas.List.Elements.{All-append, All-cons, All-head, All-nil, All-tail}
 use Rattle.lc_num.specs.Channels.{IsColourWithin}
-use Rattle.lc_num.specs.Faults.{Fault}
 use Rattle.lc_num.specs.declared.channels.Colour.{Colour}
 use Rattle.lc_scan.specs.Lines.{Line}
 use Rattle.lc_scan.specs.Fields.{fields, rest}
 use Rattle.lc_scan.specs.Spoken.{spoken}
-use Rattle.lc_scan.specs.Faults.{fault_then, first_fault}
-use Rattle.lc_scan.proofs.ReaderLemmas.{first_fault-cons}
+use Rattle.lc_scan.specs.Faults.{first_fault}
+use Rattle.lc_scan.proofs.ReaderLemmas.{fault_then-none, first_fault-cons}
 use Rattle.lc_mtl.specs.Materials.{IsMaterial, AreMaterials}
 use Rattle.lc_mtl.specs.Settings.{diffuse, specular, exponent, grey, material}
 use Rattle.lc_mtl.specs.MtlLine.{colour, entry_by, entry_of, exponent_of, keyword_of, share}
@@ -129,14 +128,10 @@ all_valid (l ∷ ls) = by_test (begins l) refl (all_valid ls)
 
 -- ---- a text
 
-none_then : (o : Option ℕ) (n : ℕ) (later : Option Fault) → fault_then o n later ≡ None → (o ≡ None) × (later ≡ None)
-none_then None n later h = (refl, h)
-none_then (Some kind) n later h = absurd cc
-
 all_fit : (held : ℕ) (before ls : List Line) → first_fault (fault_of held) before ls ≡ None → held + count_by begins before ≤ 4096 → held + count_by begins (before ++ ls) ≤ 4096
 all_fit held before [] none few = subst (λ (ks : List Line). held + count_by begins ks ≤ 4096) (sym (append-nil before)) few
 all_fit held before (l ∷ ls) none few =
-    let both = none_then (fault_of held before l) l.number _ (sym (first_fault-cons (fault_of held) before l ls _ refl) ∙ none) in
+    let both = fault_then-none (fault_of held before l) l.number _ (sym (first_fault-cons (fault_of held) before l ls _ refl) ∙ none) in
     subst (λ (ks : List Line). held + count_by begins ks ≤ 4096) (append_assoc before (l ∷ []) ls) (all_fit held (before ++ l ∷ []) ls both.1 (one_more_fits held before l both.0 few))
 
 -- where a text has no fault, its materials after those before are within their ranges, and not too many

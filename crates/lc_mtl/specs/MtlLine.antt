@@ -1,8 +1,9 @@
 -- One line of a material library: what it says, and the tests that it has to pass.
-use Rattle.std.specs.Prelude.{ℕ, ◌+◌, ◌/◌, Bool, ◌||◌, nat_lt, min, List, [], ◌∷◌, length, Option, Some, None, option_map, Result, Ok, Err, ℤ, pos, negsuc, unsigned_abs, if◌then◌else◌, codes}
+use Rattle.std.specs.Prelude.{ℕ, ◌+◌, ◌/◌, ◌||◌, nat_lt, min, List, [], ◌∷◌, length, Option, Some, None, option_map, Result, Ok, Err, ℤ, pos, negsuc, unsigned_abs, if◌then◌else◌, codes}
 use Rattle.std.specs.Str.{bytes_eq}
 use Rattle.lc_num.specs.declared.channels.Colour.{Colour}
 use Rattle.lc_scan.specs.Decimal.{decimal_of}
+use Rattle.lc_scan.specs.LineTests.{first_kind, unless}
 use Rattle.lc_scan.specs.declared.fault.NumFault.{NumFault}
 use Rattle.lc_mtl.specs.Settings.{grey}
 use Rattle.lc_mtl.specs.declared.entry.Entry.{Entry}
@@ -65,9 +66,6 @@ entry_of (word ∷ values) = option_map (λ key. entry_by key values) (keyword_o
 
 -- ---- the tests; each gives its kind where it fails
 
-abbrev pub unless : Bool → Kind → Option Kind
-unless passes kind = if passes then None else Some kind
-
 abbrev pub units_test : Result ℤ NumFault → Option Kind
 units_test (Err e) = Some kind.Number
 units_test (Ok (negsuc n)) = Some kind.Negative
@@ -111,12 +109,6 @@ tests held begun keyword.Material name values = name_test name ∷ room_test (he
 tests held begun keyword.Diffuse name values = begun_test begun ∷ colour_tests values
 tests held begun keyword.Specular name values = begun_test begun ∷ colour_tests values
 tests held begun keyword.Exponent name values = begun_test begun ∷ exponent_tests values
-
--- the first kind that is there
-abbrev pub first_kind : List (Option Kind) → Option Kind
-first_kind [] = None
-first_kind (None ∷ later) = first_kind later
-first_kind (Some kind ∷ later) = Some kind
 
 abbrev pub kind_by : ℕ → ℕ → Option Keyword → List ℕ → List (List ℕ) → Option Kind
 kind_by held begun None name values = None

@@ -2,7 +2,8 @@
 ghost use Rattle.std.specs.Prelude.{◌≡◌, ◌+◌, ◌≤◌, [], ◌∷◌, Some, None, MatchResult};
 ghost use Rattle.lc_scan.specs.Fields.{fields, rest};
 ghost use Rattle.lc_mtl.specs.Settings.{grey};
-ghost use Rattle.lc_mtl.specs.MtlLine.{begun_test, name_test, room_test, form_test, number_test, colour_tests, exponent_tests, tests, first_kind, share, colour, exponent, entry_by, entry_of, kind_of};
+ghost use Rattle.lc_scan.specs.LineTests.{first_kind};
+ghost use Rattle.lc_mtl.specs.MtlLine.{begun_test, name_test, room_test, form_test, number_test, colour_tests, exponent_tests, tests, share, colour, exponent, entry_by, entry_of, kind_of};
 
 use crate::entry::{Entry, Setting};
 use crate::keyword::Keyword;

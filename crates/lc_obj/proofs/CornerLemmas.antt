@@ -1,22 +1,20 @@
 -- The corners of a face.
-use Rattle.std.proofs.Common.{◌≡◌, ℕ, ◌+◌, ◌-◌, ◌<◌, ◌≤◌, ◌≢◌, Bool, true, false, cond, eqb, ltb, List, [], ◌∷◌, ◌++◌, length, get_or, take, drop, Option, Some, None, refl, sym, ap, ◌∙◌, subst, arith}
-use Rattle.std.specs.Prelude.{All, option_map, position, IfSome}
-use Rattle.std.specs.List.{before_first, after_first, position_or_len, slice_split, count_by}
+use Rattle.std.proofs.Common.{◌≡◌, ℕ, ◌-◌, ◌<◌, ◌≤◌, ◌≢◌, Bool, true, false, cond, eqb, ltb, List, [], ◌∷◌, length, get_or, Option, Some, None, refl, sym, ap, ◌∙◌, arith}
+use Rattle.std.specs.Prelude.{All, option_map, IfSome}
+use Rattle.std.specs.List.{before_first, after_first, position_or_len, slice_split}
 use Rattle.std.proofs.lemmas.List.Splits.{slice_split_first, slice_split_none, length-slice_split}
 use Rattle.std.proofs.lemmas.List.Sums.{fails_before_first}
 use Rattle.std.proofs.lemmas.List.Elements.{All-get_or, All-from_get_or}
-use Rattle.std.proofs.lemmas.Bool.{ltb-true, ltb-false}
+use Rattle.std.proofs.lemmas.Bool.{ltb-false}
 use Rattle.lc_num.specs.declared.vectors.Vec3.{Vec3}
 use Rattle.lc_num.specs.Vectors.{Within, zero_vector}
-use Rattle.lc_obj.specs.declared.kind.Kind.{Kind}
-use Rattle.lc_obj.specs.declared.kind.Kind.TheVariants as kind
 use Rattle.lc_obj.specs.declared.index.Index.{Index}
 use Rattle.lc_obj.specs.declared.index.Indices.{Indices}
 use Rattle.lc_obj.specs.declared.corner.Corner.{Corner}
 use Rattle.lc_obj.specs.declared.tables.Tables.{Tables}
 use Rattle.lc_obj.specs.Corners.{is_slash, index_test, optional_test, place_of, indices_in, tests_by, corner_tests, corner_by, corner_of, indices_of, AreTables}
-use Rattle.lc_obj.specs.ObjLine.{first_kind}
-use Rattle.lc_obj.proofs.KindLemmas.{first_none}
+use Rattle.lc_scan.specs.LineTests.{first_kind}
+use Rattle.lc_scan.proofs.LineTestLemmas.{cons_both_passed}
 
 -- ---- parts between slashes
 
@@ -73,9 +71,9 @@ normal_within given (Some i) all h = All-get_or (Within 16384) given (place_of (
 corner_by_indices : (given : Tables) (o : Option Indices) → AreTables given → first_kind (tests_by given o) ≡ None → IsCorner (corner_by given o)
 corner_by_indices given None valid h = absurd cc
 corner_by_indices given (Some i) valid h =
-    let place = first_none (index_test (length given.places) i.place) _ h in
-    let uv = first_none (optional_test (length given.uvs) i.uv) _ place.1 in
-    let normal = first_none (optional_test (length given.normals) i.normal) _ uv.1 in
+    let place = cons_both_passed (index_test (length given.places) i.place) _ h in
+    let uv = cons_both_passed (optional_test (length given.uvs) i.uv) _ place.1 in
+    let normal = cons_both_passed (optional_test (length given.normals) i.normal) _ uv.1 in
     record {
       place = All-get_or (Within 50_000_000) given.places (place_of (length given.places) i.place) zero_vector (index_within (length given.places) i.place place.0) valid.places;
       normal = normal_within given.normals i.normal valid.normals normal.0;

@@ -1,5 +1,5 @@
 -- The fan of a face, as its corners are read one after the other.
-use Rattle.std.proofs.Common.{◌≡◌, ℕ, ◌+◌, ◌-◌, ◌<◌, ◌≤◌, Bool, List, [], ◌∷◌, ◌++◌, length, drop, Option, Some, None, refl, sym, ap, ◌∙◌, append_assoc, arith}
+use Rattle.std.proofs.Common.{◌≡◌, ℕ, ◌+◌, ◌-◌, ◌<◌, ◌≤◌, List, [], ◌∷◌, ◌++◌, length, drop, Some, None, refl, sym, ap, ◌∙◌, append_assoc, arith}
 use Rattle.std.specs.Prelude.{filter, map, flat_map}
 use Rattle.std.specs.List.{zip}
 use Rattle.std.proofs.lemmas.List.{append-nil}
@@ -15,9 +15,10 @@ use Rattle.lc_obj.specs.declared.stop.LineStop.TheVariants as stop
 use Rattle.lc_obj.specs.declared.tables.Tables.{Tables}
 use Rattle.lc_obj.specs.Readings.{IsLineStop}
 use Rattle.lc_obj.specs.Corners.{AreTables, corner_of, corner_tests}
-use Rattle.lc_obj.specs.ObjLine.{corners_tests, count_test, face, face_tests, faces_in, field, first_kind, is_kept, room_test}
-use Rattle.lc_obj.proofs.KindLemmas.{found, passed, cons_passed, cons_found}
-use Rattle.lc_obj.proofs.CornerLemmas.{IsCorner, corner_valid}
+use Rattle.lc_scan.specs.LineTests.{first_kind}
+use Rattle.lc_obj.specs.ObjLine.{corners_tests, count_test, face, face_tests, faces_in, field, is_kept, room_test}
+use Rattle.lc_scan.proofs.LineTestLemmas.{found, passed, cons_passed, cons_found}
+use Rattle.lc_obj.proofs.CornerLemmas.{corner_valid}
 use Rattle.lc_obj.proofs.ValueLemmas.{enough, too_few, has_room, no_room}
 
 -- ---- the corners

@@ -1,4 +1,3 @@
-pub mod KindLemmas
 pub mod ValueLemmas
 pub mod CornerLemmas
 pub mod FanLemmas

@@ -5,8 +5,9 @@ use Rattle.std.specs.Str.{bytes_eq}
 use Rattle.indexmap.specs.IndexSet.{insert_key, insert_all}
 use Rattle.lc_obj.specs.declared.kind.Kind.{Kind}
 use Rattle.lc_obj.specs.declared.kind.Kind.TheVariants as kind
-use Rattle.lc_obj.specs.ObjLine.{count_test, first_kind, library_tests, name_test}
-use Rattle.lc_obj.proofs.KindLemmas.{cons_passed, cons_found}
+use Rattle.lc_scan.specs.LineTests.{first_kind}
+use Rattle.lc_obj.specs.ObjLine.{count_test, library_tests, name_test}
+use Rattle.lc_scan.proofs.LineTestLemmas.{cons_passed, cons_found}
 use Rattle.lc_obj.proofs.ValueLemmas.{enough, too_few}
 
 -- what is named so far, and what is left to name

@@ -1,14 +1,14 @@
 -- A line by its keyword and its values.
-use Rattle.std.proofs.Common.{◌≡◌, ℕ, List, [], ◌∷◌, drop, Option, Some, None, refl, sym, ap, ◌∙◌, subst}
+use Rattle.std.proofs.Common.{◌≡◌, ℕ, List, ◌∷◌, drop, Option, None, sym, ap, ◌∙◌, subst}
 use Rattle.lc_scan.specs.Fields.{fields}
 use Rattle.lc_obj.specs.Keywords.{keyword_of}
-use Rattle.lc_obj.specs.ObjLine.{field, first_kind, key, kind_of, line_tests, values}
+use Rattle.lc_scan.specs.LineTests.{first_kind}
+use Rattle.lc_obj.specs.ObjLine.{field, key, kind_of, line_tests, values}
 use Rattle.lc_obj.specs.Readings.{Adds, IsLineStop}
 use Rattle.lc_obj.specs.declared.keyword.Keyword.{Keyword}
 use Rattle.lc_obj.specs.declared.kind.Kind.{Kind}
 use Rattle.lc_obj.specs.declared.reading.Reading.{Reading}
 use Rattle.lc_obj.specs.declared.stop.LineStop.{LineStop}
-use Rattle.lc_obj.specs.declared.stop.LineStop.TheVariants as stop
 use Rattle.lc_obj.specs.declared.tables.Tables.{Tables}
 
 pub key_is : (line word : List ℕ) (rest : List (List ℕ)) (k : Keyword) → fields line ≡ word ∷ rest → k ≡ keyword_of word → k ≡ key line

@@ -1,7 +1,7 @@
 -- The lines seen so far, and what they say of the text.
-use Rattle.std.proofs.Common.{◌≡◌, ℕ, ◌+◌, ◌<◌, ◌≤◌, ◌^◌, Bool, true, false, cond, List, [], ◌∷◌, ◌++◌, length, Option, Some, None, refl, sym, ap, ◌∙◌, append_assoc, arith, add-zero, length-append, le_trans, subst, drop, nat_eq, length-drop}
-use Rattle.std.specs.Prelude.{filter, flat_map, option_map}
-use Rattle.std.specs.List.{last_or, slice_split, sum_by, count_by, starts_with}
+use Rattle.std.proofs.Common.{◌≡◌, ℕ, ◌+◌, ◌<◌, ◌≤◌, ◌^◌, Bool, true, false, cond, List, [], ◌∷◌, ◌++◌, length, Option, Some, None, refl, sym, ap, ◌∙◌, append_assoc, arith, length-append, le_trans, subst, drop, nat_eq, length-drop}
+use Rattle.std.specs.Prelude.{flat_map, option_map}
+use Rattle.std.specs.List.{last_or, sum_by, starts_with}
 use Rattle.std.proofs.lemmas.List.Elements.{All-nil}
 use Rattle.lc_num.specs.Vectors.{Within}
 use Rattle.std.specs.Str.{bytes_eq}
@@ -11,13 +11,11 @@ use Rattle.std.proofs.lemmas.List.Sums.{sum_by-append, length-filter, count_by-l
 use Rattle.std.proofs.lemmas.List.Splits.{length-slice_split}
 use Rattle.indexmap.specs.IndexSet.{insert_all}
 use Rattle.lc_num.specs.declared.vectors.Vec3.{Vec3}
-use Rattle.lc_num.specs.Faults.{Fault}
 use Rattle.lc_scan.specs.Lines.{Line, is_feed, joined, joins, last_line, line, lines, lines_of, pieces, without_mark}
 use Rattle.lc_scan.specs.Spoken.{is_spoken, spoken, spoken_in}
 use Rattle.lc_scan.proofs.ReaderLemmas as reader
 use Rattle.lc_scan.proofs.ReaderLemmas.{Progress}
 use Rattle.lc_obj.specs.Kinds.{kind_number}
-use Rattle.lc_obj.specs.Corners.{AreTables}
 use Rattle.lc_obj.specs.ObjLine.{key, values, places_by, uvs_by, normals_by, faces_by, triangles_by, uses_by, libraries_by, kind_of}
 use Rattle.lc_obj.specs.ObjFile.{tables, triangles, first_uses, uses, names, libs, number_after, in_force, faces_from, mesh, fault_of, fault_in}
 use Rattle.lc_obj.specs.Readings.{Adds, IsReading}
@@ -29,7 +27,7 @@ use Rattle.lc_obj.specs.declared.mesh.Mesh.{Mesh}
 use Rattle.lc_obj.specs.declared.mesh.Uv.{Uv}
 use Rattle.lc_obj.specs.declared.reading.Reading.{Reading}
 use Rattle.lc_obj.specs.declared.tables.Tables.{Tables}
-use Rattle.lc_obj.proofs.UseLemmas.{first_uses_more, first_uses_shorter, no_uses}
+use Rattle.lc_obj.proofs.UseLemmas.{first_uses_more, first_uses_shorter}
 
 -- ---- lists of lines
 

@@ -1,10 +1,10 @@
 -- The mesh of a text without a fault is within its ranges.
-use Rattle.std.proofs.Common.{◌≡◌, ℕ, suc, ◌+◌, ◌-◌, ◌<◌, ◌≤◌, Bool, true, false, cond, eqb, leb, not, List, [], ◌∷◌, ◌++◌, length, drop, ◌||◌, Option, Some, None, Result, Ok, Err, ℤ, refl, sym, ap, subst, ◌∙◌, append_assoc, arith, length-append, le_trans, length-drop, rules}
-use Rattle.std.specs.Prelude.{unsigned_abs, All, IfSome, filter, map, flat_map, option_map}
-use Rattle.std.specs.List.{zip, last_or, list_any, position_or_len, count_by}
+use Rattle.std.proofs.Common.{◌≡◌, ℕ, suc, ◌+◌, ◌-◌, ◌<◌, ◌≤◌, Bool, true, false, cond, leb, not, List, [], ◌∷◌, ◌++◌, length, drop, ◌||◌, Option, Some, None, Result, Ok, Err, ℤ, refl, sym, ap, subst, append_assoc, arith, length-append, le_trans, length-drop, rules}
+use Rattle.std.specs.Prelude.{unsigned_abs, All, IfSome, map, flat_map}
+use Rattle.std.specs.List.{zip, last_or, list_any, position_or_len}
 use Rattle.std.specs.Str.{bytes_eq}
 use Rattle.std.proofs.lemmas.List.{append-nil, length-map}
-use Rattle.std.proofs.lemmas.List.Elements.{All-nil, All-cons, All-push, All-append, All-filter, All-weaker}
+use Rattle.std.proofs.lemmas.List.Elements.{All-nil, All-cons, All-append, All-filter, All-weaker}
 use Rattle.std.proofs.lemmas.List.Sums.{length-filter, count_by-le-length}
 use Rattle.std.proofs.lemmas.Slice.Zip.{length-zip}
 use Rattle.std.proofs.lemmas.Bool.{leb-true}
@@ -12,32 +12,30 @@ use Rattle.indexmap.specs.IndexSet.{insert_key, insert_all}
 use Rattle.lc_num.specs.declared.vectors.Vec3.{Vec3}
 use Rattle.lc_num.specs.Vectors.{Within}
 use Rattle.lc_num.specs.Cosines.{scaled}
-use Rattle.lc_num.specs.Faults.{Fault}
-use Rattle.lc_scan.specs.Decimal.{decimal_of}
+use Rattle.lc_scan.specs.Decimal.{decimal_of, units}
 use Rattle.lc_scan.specs.Fields.{rest}
 use Rattle.lc_scan.specs.declared.fault.NumFault.{NumFault}
 use Rattle.lc_obj.specs.declared.mesh.Uv.{Uv}
 use Rattle.lc_num.proofs.ScaledLemmas.{scaled_within}
-use Rattle.lc_geom.specs.Triangles.{IsTri, is_flat}
 use Rattle.lc_scan.specs.Lines.{Line}
 use Rattle.lc_scan.specs.Spoken.{spoken}
-use Rattle.lc_scan.specs.Faults.{first_fault, fault_then}
+use Rattle.lc_scan.specs.Faults.{first_fault}
+use Rattle.lc_scan.proofs.LineTestLemmas.{both_passed, cons_both_passed, no_kind, unless_passed}
+use Rattle.lc_scan.proofs.ReaderLemmas.{fault_then-none}
 use Rattle.lc_obj.specs.Kinds.{kind_number}
 use Rattle.lc_obj.specs.Corners.{AreTables, corner_of, corner_tests}
 use Rattle.lc_obj.specs.Meshes.{AreNormals, IsFace, IsMesh}
-use Rattle.lc_obj.specs.ObjLine.{corners_tests, coordinate_in, coordinate_test, coordinate_tests, number_tests, units, count_test, face, face_tests, faces_by, faces_in, fan, field, first_kind, is_kept, key, kind_of, line_tests, normals_by, number, places_by, room_test, three_normals, triangles_by, uses_by, uv_tests, uvs_by, values, vector, vector_tests}
-use Rattle.lc_obj.specs.ObjFile.{fault_in, fault_of, faces_from, in_force, libs, mesh, names, number_after, tables, triangles, uses}
+use Rattle.lc_scan.specs.LineTests.{first_kind}
+use Rattle.lc_obj.specs.ObjLine.{corners_tests, coordinate_in, coordinate_test, coordinate_tests, number_tests, count_test, face, face_tests, faces_by, faces_in, fan, field, is_kept, key, kind_of, line_tests, normals_by, places_by, room_test, three_normals, triangles_by, uses_by, uv_tests, uvs_by, values, vector, vector_tests}
+use Rattle.lc_obj.specs.ObjFile.{fault_in, fault_of, faces_from, in_force, mesh, names, number_after, tables, triangles}
 use Rattle.lc_obj.specs.declared.keyword.Keyword.{Keyword}
 use Rattle.lc_obj.specs.declared.keyword.Keyword.TheVariants as keyword
 use Rattle.lc_obj.specs.declared.kind.Kind.{Kind}
 use Rattle.lc_obj.specs.declared.kind.Kind.TheVariants as kind
 use Rattle.lc_obj.specs.declared.corner.Corner.{Corner}
 use Rattle.lc_obj.specs.declared.mesh.Face.{Face}
-use Rattle.lc_obj.specs.declared.mesh.Mesh.{Mesh}
-use Rattle.lc_obj.specs.declared.mesh.Triple.{Triple}
 use Rattle.lc_obj.specs.declared.tables.Tables.{Tables}
 use Rattle.lc_obj.proofs.CornerLemmas.{IsCorner, corner_valid}
-use Rattle.lc_obj.proofs.KindLemmas.{first_none, both_none}
 use Rattle.lc_obj.proofs.ReadLemmas.{faces_of_one_more, number_of_one_more, one_line_more, triangles_of_one_more, uses_of_one_more}
 use Rattle.lc_obj.proofs.UseLemmas.{place_at_most, place_of_inserted}
 
@@ -74,16 +72,12 @@ fine_nothing = record {
 
 -- ---- one line of numbers
 
-open_unless : (b : Bool) (k : Kind) → cond b None (Some k) ≡ None → b ≡ true
-open_unless true k e = refl
-open_unless false k e = absurd cc
-
 room_left : (so_far more : ℕ) (k : Kind) → room_test so_far more k ≡ None → so_far + more ≤ 1_000_000
-room_left so_far more k e = leb-true (so_far + more) 1000000 (open_unless (leb (so_far + more) 1000000) k e)
+room_left so_far more k e = leb-true (so_far + more) 1000000 (unless_passed (leb (so_far + more) 1000000) k e)
 
 coordinate_within : (r : Result ℤ NumFault) → coordinate_in r ≡ None → unsigned_abs (units r) ≤ 50_000_000
 coordinate_within (Err e) h = absurd cc
-coordinate_within (Ok z) h = leb-true (unsigned_abs z) 50000000 (open_unless (leb (unsigned_abs z) 50000000) kind.Number h)
+coordinate_within (Ok z) h = leb-true (unsigned_abs z) 50000000 (unless_passed (leb (unsigned_abs z) 50000000) kind.Number h)
 
 -- a vector that passes its tests
 record IsVector (so_far : ℕ) (vs : List (List ℕ)) : Type 0 where
@@ -93,24 +87,24 @@ record IsVector (so_far : ℕ) (vs : List (List ℕ)) : Type 0 where
 vector_fine : (so_far : ℕ) (vs : List (List ℕ)) → first_kind (vector_tests so_far vs) ≡ None → IsVector so_far vs
 unfolding vector_tests vector
 vector_fine so_far vs h =
-    let all = both_none (coordinate_tests vs) _ (first_none (count_test 3 kind.Words vs) _ h).1 in
-    let x = first_none (coordinate_test (field 0 vs)) _ all.0 in
-    let y = first_none (coordinate_test (field 1 vs)) _ x.1 in
-    let z = first_none (coordinate_test (field 2 vs)) _ y.1 in
+    let all = both_passed (coordinate_tests vs) _ (cons_both_passed (count_test 3 kind.Words vs) _ h).1 in
+    let x = cons_both_passed (coordinate_test (field 0 vs)) _ all.0 in
+    let y = cons_both_passed (coordinate_test (field 1 vs)) _ x.1 in
+    let z = cons_both_passed (coordinate_test (field 2 vs)) _ y.1 in
     record {
       within = record {
         x = coordinate_within (decimal_of (field 0 vs)) x.0;
         y = coordinate_within (decimal_of (field 1 vs)) y.0;
         z = coordinate_within (decimal_of (field 2 vs)) z.0;
       };
-      room = room_left so_far 1 kind.Vertices (first_none (room_test so_far 1 kind.Vertices) _ all.1).0;
+      room = room_left so_far 1 kind.Vertices (cons_both_passed (room_test so_far 1 kind.Vertices) _ all.1).0;
     }
 
 uv_room : (so_far : ℕ) (vs : List (List ℕ)) → first_kind (uv_tests so_far vs) ≡ None → so_far + 1 ≤ 1_000_000
 unfolding uv_tests
 uv_room so_far vs h =
-    let all = both_none (number_tests vs) _ (first_none (count_test 1 kind.Words vs) _ h).1 in
-    room_left so_far 1 kind.Vertices (first_none (room_test so_far 1 kind.Vertices) _ all.1).0
+    let all = both_passed (number_tests vs) _ (cons_both_passed (count_test 1 kind.Words vs) _ h).1 in
+    room_left so_far 1 kind.Vertices (cons_both_passed (room_test so_far 1 kind.Vertices) _ all.1).0
 
 places_own : (k : Keyword) (t : Tables) (n : ℕ) (line : List ℕ) (vs : List (List ℕ)) → first_kind (line_tests k t n line vs) ≡ None → All (Within 50_000_000) (places_by k vs)
 places_own keyword.Place t n line vs h = All-cons (Within 50_000_000) (vector vs) [] (vector_fine (length t.places) vs h).within (All-nil (Within 50_000_000))
@@ -141,7 +135,7 @@ corners_valid : (t : Tables) (vs : List (List ℕ)) → AreTables t → first_ki
 unfolding corners_tests
 corners_valid t [] valid h = All-nil IsCorner
 corners_valid t (v ∷ vs) valid h =
-    let both = both_none (corner_tests t v) (flat_map (corner_tests t) vs) h in
+    let both = both_passed (corner_tests t v) (flat_map (corner_tests t) vs) h in
     All-cons IsCorner (corner_of t v) (map (corner_of t) vs) (corner_valid t v valid both.0) (corners_valid t vs valid both.1)
 
 normals_valid : (a b c : Option Vec3) → IfSome a (Within 16384) → IfSome b (Within 16384) → IfSome c (Within 16384) → IfSome (three_normals a b c) AreNormals
@@ -186,8 +180,8 @@ record IsFaceLine (t : Tables) (so_far : ℕ) (vs : List (List ℕ)) : Type 0 wh
 face_fine : (t : Tables) (so_far : ℕ) (vs : List (List ℕ)) → first_kind (face_tests t so_far vs) ≡ None → IsFaceLine t so_far vs
 unfolding face_tests
 face_fine t so_far vs h =
-    let all = both_none (corners_tests t vs) _ (first_none (count_test 3 kind.Face vs) _ h).1 in
-    record { corners = all.0; room = room_left so_far (length vs - 2) kind.Triangles (first_none (room_test so_far (length vs - 2) kind.Triangles) _ all.1).0 }
+    let all = both_passed (corners_tests t vs) _ (cons_both_passed (count_test 3 kind.Face vs) _ h).1 in
+    record { corners = all.0; room = room_left so_far (length vs - 2) kind.Triangles (cons_both_passed (room_test so_far (length vs - 2) kind.Triangles) _ all.1).0 }
 
 faces_own : (known : List (List ℕ)) (k : Keyword) (t : Tables) (n name : ℕ) (line : List ℕ) (vs : List (List ℕ)) → AreTables t → name ≤ length known → first_kind (line_tests k t n line vs) ≡ None → All (IsFace known) (faces_by t name k vs)
 faces_own known keyword.Face t n name line vs valid few h = faces_valid known t name vs valid few (face_fine t n vs h).corners
@@ -292,23 +286,15 @@ fine_line ls l e h =
 
 -- ---- the text
 
-none_then : (o : Option ℕ) (n : ℕ) (later : Option Fault) → fault_then o n later ≡ None → (o ≡ None) × (later ≡ None)
-none_then None n later h = (refl, h)
-none_then (Some kind) n later h = absurd cc
-
-no_kind : (o : Option Kind) → option_map kind_number o ≡ None → o ≡ None
-no_kind None h = refl
-no_kind (Some k) h = absurd cc
-
 passes : (ls : List Line) (l : Line) → fault_of ls l ≡ None → first_kind (line_tests (key l.bytes) (tables ls) (triangles ls) l.bytes (values l.bytes)) ≡ None
 unfolding kind_of
-passes ls l h = no_kind (kind_of (tables ls) (triangles ls) l.bytes) h
+passes ls l h = no_kind kind_number (kind_of (tables ls) (triangles ls) l.bytes) h
 
 all_fine : (before later : List Line) → first_fault fault_of before later ≡ None → Fine before → Fine (before ++ later)
 unfolding first_fault
 all_fine before [] h fine = subst (λ (ls : List Line). Fine ls) (sym (append-nil before)) fine
 all_fine before (l ∷ later) h fine =
-    let both = none_then (fault_of before l) l.number (first_fault fault_of (before ++ l ∷ []) later) h in
+    let both = fault_then-none (fault_of before l) l.number (first_fault fault_of (before ++ l ∷ []) later) h in
     subst (λ (ls : List Line). Fine ls) (append_assoc before (l ∷ []) later) (all_fine (before ++ l ∷ []) later both.1 (fine_line before l (passes before l both.0) fine))
 
 -- the mesh of a text without a fault is within its ranges

@@ -1,10 +1,11 @@
 -- The tests of a line of numbers, as its values are read one after the other.
-use Rattle.std.proofs.Common.{◌≡◌, ℕ, ◌+◌, ◌<◌, ◌≤◌, leb, List, [], ◌∷◌, ◌++◌, length, Some, None, ◌∙◌, arith}
+use Rattle.std.proofs.Common.{◌≡◌, ℕ, ◌+◌, ◌<◌, ◌≤◌, leb, List, [], ◌∷◌, length, Some, None, ◌∙◌, arith}
 use Rattle.std.proofs.lemmas.Bool.{le-leb, lt-leb}
 use Rattle.lc_obj.specs.declared.kind.Kind.{Kind}
 use Rattle.lc_obj.specs.declared.kind.Kind.TheVariants as kind
-use Rattle.lc_obj.specs.ObjLine.{first_kind, coordinate_tests, number_tests, vector_tests, uv_tests, room_test, count_test}
-use Rattle.lc_obj.proofs.KindLemmas.{found, passed, cons_passed, cons_found, unless_true, unless_false}
+use Rattle.lc_scan.specs.LineTests.{first_kind}
+use Rattle.lc_obj.specs.ObjLine.{coordinate_tests, number_tests, vector_tests, uv_tests, room_test, count_test}
+use Rattle.lc_scan.proofs.LineTestLemmas.{found, passed, cons_passed, cons_found, unless_true, unless_false}
 
 pub enough : (least : ℕ) (k : Kind) (vs : List (List ℕ)) → least ≤ length vs → count_test least k vs ≡ None
 enough least k vs h = unless_true (leb least (length vs)) k (le-leb least (length vs) h)

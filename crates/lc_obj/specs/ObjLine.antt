@@ -1,12 +1,13 @@
 -- One line of a mesh: what it gives, and the tests that it has to pass.
-use Rattle.std.specs.Prelude.{ℕ, ◌+◌, ◌-◌, Bool, not, nat_lt, nat_le, List, [], ◌∷◌, ◌++◌, length, drop, filter, flat_map, map, Option, Some, None, Result, Ok, Err, ℤ, pos, unsigned_abs, if◌then◌else◌, slice_index_or}
+use Rattle.std.specs.Prelude.{ℕ, ◌+◌, ◌-◌, Bool, not, nat_lt, nat_le, List, [], ◌∷◌, ◌++◌, length, drop, filter, flat_map, map, Option, Some, None, Result, Ok, Err, ℤ, pos, unsigned_abs, slice_index_or}
 use Rattle.std.specs.List.{zip}
 use Rattle.lc_num.specs.Cosines.{scaled}
 use Rattle.lc_num.specs.declared.vectors.Vec3.{Vec3}
 use Rattle.lc_geom.specs.Triangles.{is_flat}
 use Rattle.lc_scan.specs.Fields.{fields, rest}
 use Rattle.lc_scan.specs.Names.{is_utf8}
-use Rattle.lc_scan.specs.Decimal.{decimal_of}
+use Rattle.lc_scan.specs.Decimal.{decimal_of, units}
+use Rattle.lc_scan.specs.LineTests.{first_kind, unless}
 use Rattle.lc_scan.specs.declared.fault.NumFault.{NumFault}
 use Rattle.lc_obj.specs.Keywords.{keyword_of}
 use Rattle.lc_obj.specs.Corners.{corner_of, corner_tests}
@@ -33,10 +34,6 @@ abbrev pub values : List ℕ → List (List ℕ)
 values line = drop 1 (fields line)
 
 -- ---- numbers
-
-abbrev pub units : Result ℤ NumFault → ℤ
-units (Ok z) = z
-units (Err e) = pos 0
 
 abbrev pub number : ℕ → List (List ℕ) → ℤ
 number k vs = units (decimal_of (field k vs))
@@ -125,9 +122,6 @@ libraries_by _ vs = []
 
 -- ---- the tests; each gives its kind where it fails
 
-abbrev pub unless : Bool → Kind → Option Kind
-unless passes kind = if passes then None else Some kind
-
 -- so many values stand after the keyword, or more
 abbrev pub count_test : ℕ → Kind → List (List ℕ) → Option Kind
 count_test least kind vs = unless (nat_le least (length vs)) kind
@@ -185,12 +179,6 @@ name_test name = unless (is_utf8 name) kind.Utf8
 
 unfoldable pub library_tests : List (List ℕ) → List (Option Kind)
 library_tests vs = count_test 1 kind.Words vs ∷ map name_test vs
-
--- the first kind that is there
-abbrev pub first_kind : List (Option Kind) → Option Kind
-first_kind [] = None
-first_kind (None ∷ later) = first_kind later
-first_kind (Some kind ∷ later) = Some kind
 
 -- the tests of a line in their order, after these items and so many triangles; a line of another keyword is passed over
 abbrev pub line_tests : Keyword → Tables → ℕ → List ℕ → List (List ℕ) → List (Option Kind)

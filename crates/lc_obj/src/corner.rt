@@ -2,7 +2,7 @@
 ghost use Rattle.std.specs.Prelude.{◌≡◌, ◌≤◌, length, Some, None, IfOk, MatchResult, option_map, slice_index_or};
 ghost use Rattle.lc_num.specs.Vectors.{Within, zero_vector};
 ghost use Rattle.lc_obj.specs.Corners.{AreTables, corner_of, corner_tests, index_test, no_uv, optional_test, place_of};
-ghost use Rattle.lc_obj.specs.ObjLine.{first_kind};
+ghost use Rattle.lc_scan.specs.LineTests.{first_kind};
 
 use crate::index::{Index, Indices};
 use crate::kind::Kind;
@@ -53,8 +53,8 @@ fn normal_at(index: Option<Index>, given: &[Vec3]) -> Result<Option<Vec3>, Kind>
     Ok(Some(normal))
 }
 
-#[tactic(auto, unfolding(crate::specs::Corners::corner_tests, crate::specs::Corners::corner_of))]
 /// What a field of a face names.
+#[tactic(auto, unfolding(crate::specs::Corners::corner_tests, crate::specs::Corners::corner_of))]
 pub fn corner_in(field: &[u8], given: &Tables) -> Result<Corner, Kind>
     ensures { MatchResult result
         (λ corner. (first_kind (corner_tests given.now field.now) ≡ None) × (corner_of given.now field.now ≡ corner))

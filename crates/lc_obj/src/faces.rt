@@ -2,7 +2,8 @@
 ghost use Rattle.std.specs.Prelude.{◌≡◌, ◌-◌, ◌+◌, ◌<◌, ◌≤◌, [], ◌∷◌, ◌++◌, length, drop, filter, Some, None, IfErr, IfOk, OnOk, MatchResult};
 ghost use Rattle.lc_geom.specs.Triangles.{IsTri};
 ghost use Rattle.lc_obj.specs.Corners.{AreTables, corner_of, corner_tests};
-ghost use Rattle.lc_obj.specs.ObjLine.{corners_tests, face, face_tests, faces_in, field, first_kind, is_kept, three_normals, three_uvs};
+ghost use Rattle.lc_scan.specs.LineTests.{first_kind};
+ghost use Rattle.lc_obj.specs.ObjLine.{corners_tests, face, face_tests, faces_in, field, is_kept, three_normals, three_uvs};
 ghost use Rattle.lc_obj.specs.Readings.{IsLineStop};
 
 use crate::corner::{Corner, corner_in};

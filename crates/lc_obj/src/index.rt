@@ -51,8 +51,8 @@ fn first_part(text: &[u8]) -> (&[u8], Option<&[u8]>)
 }
 
 impl Index {
-    #[tactic(auto, unfolding(crate::specs::Corners::index_of))]
     /// The index that a part of a corner spells.
+    #[tactic(auto, unfolding(crate::specs::Corners::index_of))]
     fn of(part: &[u8]) -> Option<Index>
         ensures { result ≡ index_of part.now }
     {
@@ -85,8 +85,8 @@ impl Index {
 }
 
 impl Indices {
-    #[tactic(auto, unfolding(crate::specs::Corners::indices_of))]
     /// The indices of a corner, where it has one of the forms `v`, `v/vt`, `v//vn` and `v/vt/vn`.
+    #[tactic(auto, unfolding(crate::specs::Corners::indices_of))]
     pub fn of(corner: &[u8]) -> Option<Indices>
         ensures { result ≡ indices_of corner.now }
     {

@@ -3,7 +3,8 @@ ghost use Rattle.std.specs.Prelude.{◌≡◌, ◌+◌, ◌<◌, ◌≤◌, ◌^
 ghost use Rattle.std.specs.Str.{bytes_eq};
 ghost use Rattle.indexmap.specs.IndexSet.{insert_all, insert_key};
 ghost use Rattle.lc_scan.specs.Fields.{fields};
-ghost use Rattle.lc_obj.specs.ObjLine.{first_kind, key, kind_of, library_tests, line_tests, name_test, use_tests, values};
+ghost use Rattle.lc_scan.specs.LineTests.{first_kind};
+ghost use Rattle.lc_obj.specs.ObjLine.{key, kind_of, library_tests, line_tests, name_test, use_tests, values};
 ghost use Rattle.lc_obj.specs.Readings.{Adds, IsLineStop, IsReading};
 ghost use Rattle.lc_obj.specs.declared.keyword.Keyword.TheVariants.{Library, Use};
 

@@ -2,7 +2,8 @@
 ghost use Rattle.std.specs.Prelude.{◌≡◌, [], ◌∷◌, ◌++◌, length, Some, None, IfErr, OnOk};
 ghost use Rattle.lc_num.specs.Cosines.{scaled};
 ghost use Rattle.lc_obj.specs.Corners.{AreTables};
-ghost use Rattle.lc_obj.specs.ObjLine.{first_kind, uv, uv_tests, vector, vector_tests};
+ghost use Rattle.lc_scan.specs.LineTests.{first_kind};
+ghost use Rattle.lc_obj.specs.ObjLine.{uv, uv_tests, vector, vector_tests};
 ghost use Rattle.lc_obj.specs.Readings.{IsLineStop};
 
 use crate::mesh::Uv;

@@ -1,7 +1,8 @@
 // The numbers of a line, one after the other.
 ghost use Rattle.std.specs.Prelude.{◌≡◌, ◌<◌, ◌≤◌, length, drop, Some, None, IfOk, OnOk, MatchResult, unsigned_abs};
 ghost use Rattle.lc_num.specs.Vectors.{Within};
-ghost use Rattle.lc_obj.specs.ObjLine.{coordinate_test, coordinate_tests, field, first_kind, number, number_or_0, number_test, number_tests, optional_number_test, uv, uv_tests, vector, vector_tests};
+ghost use Rattle.lc_scan.specs.LineTests.{first_kind};
+ghost use Rattle.lc_obj.specs.ObjLine.{coordinate_test, coordinate_tests, field, number, number_or_0, number_test, number_tests, optional_number_test, uv, uv_tests, vector, vector_tests};
 
 use crate::kind::Kind;
 use crate::mesh::Uv;
@@ -94,8 +95,8 @@ fn uv(values: &mut Fields) -> Result<Uv, Kind>
     Ok(Uv { u, v })
 }
 
-#[tactic(auto, unfolding(crate::specs::ObjLine::vector_tests))]
 /// The place or direction of so many values, after so many of its kind.
+#[tactic(auto, unfolding(crate::specs::ObjLine::vector_tests))]
 pub fn vector_after(so_far: usize, values: &mut Fields, count: usize) -> Result<Vec3, Kind>
     requires count { count ≡ length values.old }
     requires few { so_far ≤ 1_000_000 }
@@ -115,8 +116,8 @@ pub fn vector_after(so_far: usize, values: &mut Fields, count: usize) -> Result<
     Ok(v)
 }
 
-#[tactic(auto, unfolding(crate::specs::ObjLine::uv_tests))]
 /// The texture place of so many values, after so many.
+#[tactic(auto, unfolding(crate::specs::ObjLine::uv_tests))]
 pub fn uv_after(so_far: usize, values: &mut Fields, count: usize) -> Result<Uv, Kind>
     requires count { count ≡ length values.old }
     requires few { so_far ≤ 1_000_000 }

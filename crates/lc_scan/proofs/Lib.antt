@@ -7,3 +7,4 @@ pub mod DecimalLemmas
 pub mod SpellingLemmas
 pub mod WholeLemmas
 pub mod NameLemmas
+pub mod LineTestLemmas

@@ -2,6 +2,7 @@
 use Rattle.std.proofs.Common.{◌≡◌, ℕ, ◌<◌, cond, List, [], ◌∷◌, ◌++◌, length, Option, Some, None, refl, sym, ap, ◌∙◌, append_assoc, arith}
 use Rattle.std.proofs.lemmas.List.{append-nil}
 use Rattle.std.proofs.lemmas.Bool.{lt-ltb, le-ltb}
+use Rattle.lc_num.specs.Faults.{Fault}
 use Rattle.lc_scan.specs.Lines.{Line}
 use Rattle.lc_scan.specs.Fields.{fields}
 use Rattle.lc_scan.specs.Spoken.{spoken, spoken_in}
@@ -24,6 +25,11 @@ first_fault-none judge before = refl
 pub first_fault-cons : (judge : Judge) (before : List Line) (l : Line) (later : List Line) (o : Option ℕ) → judge before l ≡ o → first_fault judge before (l ∷ later) ≡ fault_then o l.number (first_fault judge (before ++ l ∷ []) later)
 unfolding first_fault
 first_fault-cons judge before l later o e = ap (λ (x : Option ℕ). fault_then x l.number (first_fault judge (before ++ l ∷ []) later)) e
+
+-- where a text has no fault, none of its lines has one
+pub fault_then-none : (o : Option ℕ) (number : ℕ) (later : Option Fault) → fault_then o number later ≡ None → (o ≡ None) × (later ≡ None)
+fault_then-none None number later e = (refl, e)
+fault_then-none (Some kind) number later e = absurd cc
 
 -- ---- a reader's progress
 

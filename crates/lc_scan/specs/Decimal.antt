@@ -96,3 +96,8 @@ judged p = if is_decimal p then measured p else Err Form
 -- the units of the decimal that a field spells, or the field's fault
 abbrev pub decimal_of : List ℕ → Result ℤ NumFault
 decimal_of field = judged (parts_of field)
+
+-- the units of a decimal, or 0 where it has a fault
+abbrev pub units : Result ℤ NumFault → ℤ
+units (Ok z) = z
+units (Err fault) = pos 0

@@ -6,3 +6,4 @@ pub mod Whole
 pub mod Decimal
 pub mod Spelling
 pub mod Names
+pub mod LineTests

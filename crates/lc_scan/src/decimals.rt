@@ -162,8 +162,8 @@ fn exponent_up_to_41(exponent: Option<&[u8]>) -> u32
     }
 }
 
-#[tactic(auto, unfolding(crate::specs::Decimal::size))]
 /// The units of a decimal's parts, sign apart, or `MOST + 1` where they are more.
+#[tactic(auto, unfolding(crate::specs::Decimal::size))]
 fn size_up_to_most(p: &DecimalParts, exponent: u32) -> u128
     requires decimal { IsTrue (is_decimal p.now) }
     requires digits { length p.now.before + length p.now.after ≤ 30 }

@@ -1,7 +1,8 @@
 use Rattle.std.proofs.lemmas.Result.{err_from_is_err_and}
+use Rattle.lc_scan.proofs.LineTestLemmas.{cons_found, cons_passed}
 use Rattle.lc_light.specs.declared.area.Area.{Area}
-use Rattle.lc_light.proofs.SourceLemmas.{HasSides, HasPower, AreValues, area_corner, area_along, area_across, area_power, area_count, area_is, single, single_passed}
-use Rattle.std.proofs.Common.{◌∙◌}
+use Rattle.lc_light.proofs.SourceLemmas.{HasSides, HasPower, AreValues, area_corner, area_along, area_across, area_power, area_count, area_is}
+use Rattle.std.proofs.Common.{[], ◌∙◌}
 use Rattle.lc_light.proofs.line.read_area.Goals as goal
 
 pub returns-in_err-corner-clause-value : goal.returns-in_err-corner-clause-value
@@ -45,7 +46,7 @@ returns-in_err-count-clause-value c =
       rest_is = c.in_ok-across.ensures.rest;
     } in
     let h : HasPower c.args.values.now c.vector.new.values c.side.new.values c.side-2.new.values c.power.new.values = record { sides = sides; power = c.in_ok-power.ensures.value.0; rest_is = c.in_ok-power.ensures.rest } in
-    rw (p.1, p.2) (area_count c.args.values.now c.vector.new.values c.side.new.values c.side-2.new.values c.power.new.values h ∙ single _ _ c.in_err-count.ensures.value)
+    rw (p.1, p.2) (area_count c.args.values.now c.vector.new.values c.side.new.values c.side-2.new.values c.power.new.values h ∙ cons_found _ [] _ c.in_err-count.ensures.value)
 
 pub returns-clause-value : goal.returns-clause-value
 returns-clause-value c =
@@ -66,6 +67,6 @@ returns-clause-value c =
       power = c.in_ok-power.ensures.value.1;
       count = c.in_ok-count.ensures.value.1;
     } in (
-      area_count c.args.values.now c.vector.new.values c.side.new.values c.side-2.new.values c.power.new.values h ∙ single_passed _ c.in_ok-count.ensures.value.0,
+      area_count c.args.values.now c.vector.new.values c.side.new.values c.side-2.new.values c.power.new.values h ∙ cons_passed _ [] c.in_ok-count.ensures.value.0,
       area_is c.args.values.now c.vector.new.values c.side.new.values c.side-2.new.values c.power.new.values made h v,
     )

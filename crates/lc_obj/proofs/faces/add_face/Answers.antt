@@ -1,4 +1,4 @@
-use Rattle.std.proofs.Common.{length, arith}
+use Rattle.std.proofs.Common.{arith}
 use Rattle.std.proofs.lemmas.Result.{err_from_is_err_and}
 use Rattle.lc_obj.proofs.FanLemmas.{wrong_corner, stops_at_corner, too_few_corners, face_passes, no_room_for_face}
 use Rattle.lc_obj.proofs.faces.add_face.Goals as goal

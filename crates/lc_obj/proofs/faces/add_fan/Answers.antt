@@ -1,4 +1,4 @@
-use Rattle.std.proofs.Common.{◌≡◌, ◌<◌, length, drop, arith, ◌∙◌, ap, length-drop}
+use Rattle.std.proofs.Common.{◌<◌, length, arith, ◌∙◌, ap, length-drop}
 use Rattle.std.proofs.lemmas.Result.{err_from_is_err_and}
 use Rattle.lc_obj.specs.ObjLine.{field}
 use Rattle.lc_obj.proofs.CornerLemmas.{corner_valid}

@@ -1,5 +1,6 @@
 use Rattle.std.proofs.Common.{◌≡◌, length}
-use Rattle.lc_obj.specs.ObjLine.{corners_tests, first_kind}
+use Rattle.lc_scan.specs.LineTests.{first_kind}
+use Rattle.lc_obj.specs.ObjLine.{corners_tests}
 use Rattle.lc_obj.proofs.faces.test_corners.Given as goal
 
 abbrev pub invariant-loop-value : goal.invariant-loop-value

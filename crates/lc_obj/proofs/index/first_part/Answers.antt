@@ -1,5 +1,4 @@
-use Rattle.std.proofs.Common.{length, sym, ap, ◌∙◌, ◌∷◌, [], List, ℕ, ◌<◌, arith}
-use Rattle.std.specs.List.{before_first, slice_split}
+use Rattle.std.proofs.Common.{sym, ◌∙◌}
 use Rattle.lc_scan.proofs.DigitLemmas.{place_none, place_some, some_before, some_after}
 use Rattle.lc_obj.specs.Corners.{is_slash}
 use Rattle.lc_obj.proofs.CornerLemmas.{one_part, two_parts}

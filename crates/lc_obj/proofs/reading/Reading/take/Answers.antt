@@ -1,9 +1,5 @@
-use Rattle.std.proofs.Common.{sym, ◌∙◌, Option}
-use Rattle.std.specs.Prelude.{IfErr}
+use Rattle.std.proofs.Common.{sym, ◌∙◌}
 use Rattle.std.proofs.lemmas.Result.{on_ok_weaker, IfErr-weaker}
-use Rattle.lc_obj.specs.ObjLine.{kind_of}
-use Rattle.lc_obj.specs.Readings.{IsLineStop}
-use Rattle.lc_obj.specs.declared.kind.Kind.{Kind}
 use Rattle.lc_obj.proofs.LineLemmas.{key_is, values_are, kind_is, takes_line, same_stop}
 use Rattle.lc_obj.proofs.reading.Reading.take.Goals as goal
 

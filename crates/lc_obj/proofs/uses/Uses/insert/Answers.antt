@@ -1,4 +1,4 @@
-use Rattle.std.proofs.Common.{◌≡◌, ℕ, Bool, not, List, Bor, length, sym, ap, ◌∙◌, arith}
+use Rattle.std.proofs.Common.{ℕ, not, List, Bor, sym, ap, ◌∙◌}
 use Rattle.std.specs.Prelude.{map}
 use Rattle.std.specs.List.{list_any, position_or_len}
 use Rattle.std.specs.Str.{bytes_eq}

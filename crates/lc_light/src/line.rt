@@ -1,10 +1,10 @@
 // One line of a light file.
-ghost use Rattle.std.specs.Prelude.{◌≡◌, ◌+◌, ◌<◌, ◌≤◌, ◌^◌, [], ◌∷◌, length, drop, Some, None, IfOk, MatchResult, IsTrue, ◌↔◌};
+ghost use Rattle.std.specs.Prelude.{◌≡◌, ◌+◌, ◌<◌, ◌≤◌, ◌^◌, length, Some, None, IfOk, MatchResult};
 ghost use Rattle.lc_num.specs.Vectors.{Within};
 ghost use Rattle.lc_scan.specs.Fields.{fields};
 ghost use Rattle.lc_light.specs.Sources.{IsSource, count};
 ghost use Rattle.lc_scan.specs.LineTests.{first_kind};
-ghost use Rattle.lc_light.specs.LightLine.{point, sun, area, source_by, source_of, area_tests, value_tests, value_count, keyword_of, kind_of};
+ghost use Rattle.lc_light.specs.LightLine.{point, sun, area, source_by, source_of, area_tests, value_tests, value_count, kind_of};
 
 use crate::area::Area;
 use crate::keyword::Keyword;

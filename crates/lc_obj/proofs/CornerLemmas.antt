@@ -65,7 +65,7 @@ pub record IsCorner (corner : Corner) : Type 0 where
   pub normal : IfSome corner.normal (Within 16384)
 
 normal_within : (given : List Vec3) (i : Option Index) → All (Within 16384) given → optional_test (length given) i ≡ None → IfSome (option_map (λ (k : Index). get_or given (place_of (length given) k) zero_vector) i) (Within 16384)
-normal_within given None all h = search (all)
+normal_within given None all h = tt
 normal_within given (Some i) all h = All-get_or (Within 16384) given (place_of (length given) i) zero_vector (index_within (length given) i h) all
 
 corner_by_indices : (given : Tables) (o : Option Indices) → AreTables given → first_kind (tests_by given o) ≡ None → IsCorner (corner_by given o)

@@ -1,7 +1,7 @@
 // The corners of a face.
-ghost use Rattle.std.specs.Prelude.{◌≡◌, ◌≤◌, length, Some, None, IfOk, MatchResult, option_map, slice_index_or};
-ghost use Rattle.lc_num.specs.Vectors.{Within, zero_vector};
-ghost use Rattle.lc_obj.specs.Corners.{AreTables, corner_of, corner_tests, index_test, no_uv, optional_test, place_of};
+ghost use Rattle.std.specs.Prelude.{◌≡◌, length, Some, None, MatchResult, option_map, slice_index_or};
+ghost use Rattle.lc_num.specs.Vectors.{zero_vector};
+ghost use Rattle.lc_obj.specs.Corners.{corner_of, corner_tests, index_test, no_uv, optional_test, place_of};
 ghost use Rattle.lc_scan.specs.LineTests.{first_kind};
 
 use crate::index::{Index, Indices};

@@ -1,5 +1,5 @@
 // The indices of a corner.
-ghost use Rattle.std.specs.Prelude.{◌≡◌, ◌<◌, ◌≤◌, [], ◌∷◌, length, Some, None, MatchOption, MatchResult, position};
+ghost use Rattle.std.specs.Prelude.{◌≡◌, ◌<◌, [], ◌∷◌, Some, None, MatchOption, MatchResult, position};
 ghost use Rattle.std.specs.List.{slice_split};
 ghost use Rattle.lc_obj.specs.Corners.{digits, index_of, index_test, indices_of, is_back, is_slash, place_of};
 

@@ -1,5 +1,5 @@
 // The items that the lines of a file have given.
-ghost use Rattle.std.specs.Prelude.{◌≡◌, [], ◌∷◌, ◌++◌, length, Some, None, IfErr, OnOk};
+ghost use Rattle.std.specs.Prelude.{◌≡◌, [], ◌∷◌, ◌++◌, length, None, IfErr, OnOk};
 ghost use Rattle.lc_num.specs.Cosines.{scaled};
 ghost use Rattle.lc_obj.specs.Corners.{AreTables};
 ghost use Rattle.lc_scan.specs.LineTests.{first_kind};

@@ -1,5 +1,5 @@
 // The numbers of a line, one after the other.
-ghost use Rattle.std.specs.Prelude.{◌≡◌, ◌<◌, ◌≤◌, length, drop, Some, None, IfOk, OnOk, MatchResult, unsigned_abs};
+ghost use Rattle.std.specs.Prelude.{◌≡◌, ◌<◌, ◌≤◌, length, drop, Some, None, IfOk, MatchResult, unsigned_abs};
 ghost use Rattle.lc_num.specs.Vectors.{Within};
 ghost use Rattle.lc_scan.specs.LineTests.{first_kind};
 ghost use Rattle.lc_obj.specs.ObjLine.{coordinate_test, coordinate_tests, field, number, number_or_0, number_test, number_tests, optional_number_test, uv, uv_tests, vector, vector_tests};

@@ -1,0 +1,2 @@
+pub use Rattle.lc_num.specs.Channels
+pub mod Record

@@ -1,0 +1,3 @@
+pub use Rattle.lc_num.specs.Vectors
+pub use Rattle.lc_num.specs.Cosines
+pub mod Camera

@@ -1,5 +1,5 @@
 -- The bytes of a record: its header, and a line for each sample.
-use Rattle.std.specs.Prelude.{ℕ, ◌*◌, ◌-◌, ◌^◌, ◌≤◌, List, ◌++◌, codes, decimal}
+use Rattle.std.specs.Prelude.{ℕ, ◌*◌, ◌-◌, ◌^◌, ◌≤◌, List, ◌++◌, codes, decimal, flat_map}
 use Rattle.lc_num.specs.Channels.{IsRgbWithin}
 use Rattle.lc_rated.specs.declared.answer.Answer.{Answer}
 use Rattle.lc_record.specs.declared.head.Header.{Header}
@@ -24,3 +24,15 @@ pub record IsSample (most : ℕ) (a : Answer) : Type 0 where
   pub evals : a.evals ≤ 2 * most
   pub est : IsRgbWithin (2 ^ 117 - 1) a.est
   pub bound : IsRgbWithin (2 ^ 117 - 1) a.bound
+
+-- the ranges of a header
+pub record IsHeader (h : Header) : Type 0 where
+  pub width : (1 ≤ h.width) × (h.width ≤ 4096)
+  pub height : (1 ≤ h.height) × (h.height ≤ 4096)
+  pub grid : (1 ≤ h.grid) × (h.grid ≤ 16)
+  pub cut : (3 ≤ h.cut) × (h.cut ≤ 65_536)
+  pub permille : h.permille ≤ 1000
+
+-- a whole record: its header, and a line for each answer
+unfoldable pub text : Header → List Answer → List ℕ
+text header answers = header_bytes header ++ flat_map line_bytes answers

@@ -1,5 +1,6 @@
 // The lights of a scene in trees, and the cut through them at a spot.
-ghost use Rattle.std.specs.Prelude.{◌≡◌, ◌+◌, ◌*◌, ◌≤◌, ◌⊎◌, IfOk};
+ghost use Rattle.std.specs.Prelude.{◌≡◌, ◌+◌, ◌-◌, ◌*◌, ◌^◌, ◌≤◌, ◌⊎◌, IfOk};
+ghost use Rattle.lc_num.specs.Channels.{IsRgbWithin};
 ghost use Rattle.lc_light.specs.Lights.{AreLights};
 ghost use Rattle.lc_terms.specs.Spot.{IsMatte, IsSpot};
 ghost use Rattle.lc_rated.specs.Cuts.{IsFraction, IsNear, answer};
@@ -85,6 +86,8 @@ pub fn cut<T: Triangles, L: Ledger>(
     ensures fraction { (result.size ≡ ask.size) ⊎ IsFraction ask.permille result }
     ensures size { result.size ≤ ask.size }
     ensures evals { result.evals ≤ 2 * ask.size }
+    ensures est { IsRgbWithin (2 ^ 117 - 1) result.est }
+    ensures bound { IsRgbWithin (2 ^ 117 - 1) result.bound }
     ensures steps { steps.new ≡ steps.old + result.evals }
     ensures bench { bench.new ≡ bench.old }
 {

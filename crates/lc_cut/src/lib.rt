@@ -7,7 +7,7 @@ mod node;
 mod rating;
 
 pub use forest::{Ask, Forest, cut};
-pub use laws::{distance_to_all_lights, forests_of_all_lights};
+pub use laws::{distance_to_all_lights, forests_of_all_lights, sums_fit};
 pub use lc_rated::{Answer, Bench};
 
 #[cfg(test)]

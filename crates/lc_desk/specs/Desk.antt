@@ -36,6 +36,10 @@ pub record DeskState : Type 0 where
   pub shorts : ℕ
   -- no call of it ever fails
   pub steady : Bool
+  -- the names that it was asked to read, in order
+  pub asked : List (List ℕ)
+  -- the slots that it was asked to begin, each with its name, in order
+  pub begins : List (Slot × List ℕ)
 
 abbrev pub slot_at : Slots → Slot → SlotState
 slot_at s Picture = s.picture
@@ -96,17 +100,20 @@ pub record Later (before now : DeskState) : Type 0 where
   -- a desk with no call to fail counts no fault
   pub no_fault : IsTrue before.steady → now.faults ≡ before.faults
 
--- what a read may change: the count of faults for reads, and the counts that belong to no slot
+-- what a read may change: the count of faults for reads, the counts that belong to no slot, and what it was asked to read
 pub record OnlyReads (before now : DeskState) : Type 0 where
   pub later : Later before now
   pub slots : now.slots ≡ before.slots
   pub faults : now.faults ≡ record before.faults { reads = now.faults.reads }
+  pub begins : now.begins ≡ before.begins
 
--- what a begin or a put may change: its slot, the slot's count of faults, and the counts that belong to no slot
+-- what a begin or a put may change: its slot, the slot's count of faults, the counts that belong to no slot, and what it
+-- was asked to begin
 pub record OnlySlot (slot : Slot) (before now : DeskState) : Type 0 where
   pub later : Later before now
   pub slots : now.slots ≡ with_slot before.slots slot (slot_at now.slots slot)
   pub faults : now.faults ≡ with_fault before.faults slot (fault_at now.faults slot)
+  pub asked : now.asked ≡ before.asked
 
 -- over a desk that tells its files, the file of this name is so
 abbrev pub Told : Option Files → List ℕ → (Option (List ℕ) → Type 0) → Type 0

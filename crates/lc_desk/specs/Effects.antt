@@ -1,5 +1,5 @@
 -- What each answer of a call does to what a desk tells.
-use Rattle.std.specs.Prelude.{ℕ, List, Option, Some, None, Result, Ok, Err, take}
+use Rattle.std.specs.Prelude.{ℕ, List, [], ◌∷◌, ◌++◌, Option, Some, None, Result, Ok, Err, take}
 use Rattle.lc_desk.specs.Causes.{raised}
 use Rattle.lc_desk.specs.declared.desk.Slot.{Slot}
 use Rattle.lc_desk.specs.declared.desk.ReadStop.{ReadStop}
@@ -9,12 +9,16 @@ use Rattle.lc_desk.specs.declared.desk.PutStop.TheVariants as put_stop
 use Rattle.lc_desk.specs.Desk.{DeskState, SlotState, slot_at, with_slot, fault_at, with_fault, opened, appended}
 
 -- a refused read raises the one count of its cause, and want of memory none
-abbrev pub after_read : {T : Type 0} → Result T ReadStop → DeskState → DeskState
-after_read (Ok _) d = d
-after_read (Err read_stop.Absent) d = record d { absents = raised d.absents }
-after_read (Err read_stop.Long) d = record d { longs = raised d.longs }
-after_read (Err read_stop.Failed) d = record d { faults = record d.faults { reads = raised d.faults.reads } }
-after_read (Err read_stop.Memory) d = d
+abbrev pub counts_after : {T : Type 0} → Result T ReadStop → DeskState → DeskState
+counts_after (Ok _) d = d
+counts_after (Err read_stop.Absent) d = record d { absents = raised d.absents }
+counts_after (Err read_stop.Long) d = record d { longs = raised d.longs }
+counts_after (Err read_stop.Failed) d = record d { faults = record d.faults { reads = raised d.faults.reads } }
+counts_after (Err read_stop.Memory) d = d
+
+-- a read changes the counts, and was asked for this name
+abbrev pub after_read : {T : Type 0} → Result T ReadStop → List ℕ → DeskState → DeskState
+after_read result name d = record (counts_after result d) { asked = d.asked ++ name ∷ [] }
 
 -- a slot's count of faults rises by one where a begin or a put of it answers Failed
 abbrev pub faults_after : {T : Type 0} → Result T PutStop → ℕ → ℕ
@@ -39,15 +43,16 @@ slot_after_put (Ok _) part s = appended part s
 slot_after_put (Err put_stop.Failed) part s = appended part s
 slot_after_put (Err put_stop.Memory) part s = s
 
--- a begin changes its slot, the slot's count of faults and the count of wants of memory
+-- a begin changes its slot, the slot's count of faults and the count of wants of memory, and was asked for
 abbrev pub after_begin : {T : Type 0} → Result T PutStop → Slot → List ℕ → DeskState → DeskState
 after_begin result slot name d = record d {
   slots = with_slot d.slots slot (slot_after_begin result name (slot_at d.slots slot));
   faults = with_fault d.faults slot (faults_after result (fault_at d.faults slot));
   shorts = shorts_after result d.shorts;
+  begins = d.begins ++ (slot, name) ∷ [];
 }
 
--- a put that takes this part changes the same three
+-- a put that takes this part changes its slot and the same two counts
 abbrev pub after_put : {T : Type 0} → Result T PutStop → Slot → List ℕ → DeskState → DeskState
 after_put result slot part d = record d {
   slots = with_slot d.slots slot (slot_after_put result part (slot_at d.slots slot));

@@ -1,5 +1,5 @@
--- What the desk of the system tells: which slots were begun, and its counts, but no contents.
-use Rattle.std.specs.Prelude.{◌≡◌, ℕ, List, Bool, false, Option, None, Some}
+-- What the desk of the system tells: which slots were begun, its counts and what it was asked, but no contents.
+use Rattle.std.specs.Prelude.{◌≡◌, ℕ, List, [], Bool, false, Option, None, Some}
 use Rattle.std.specs.Io.KnownBytes.{Appends}
 use Rattle.lc_desk.specs.Desk.{DeskState, SlotState}
 use Rattle.lc_desk.specs.declared.tally.Tally.{Tally}
@@ -16,9 +16,11 @@ tally_state t = record {
   longs = t.longs;
   shorts = t.shorts;
   steady = false;
+  asked = t.log.asked;
+  begins = t.log.begins;
 }
 
--- no slot begun, and every count 0
+-- no slot begun, every count 0, and nothing asked
 abbrev pub untold_state : DeskState
 untold_state = record {
   held = None;
@@ -28,6 +30,8 @@ untold_state = record {
   longs = 0;
   shorts = 0;
   steady = false;
+  asked = [];
+  begins = [];
 }
 
 -- a file that was made for a slot has these bytes more, where it tells what it holds

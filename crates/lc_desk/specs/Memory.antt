@@ -42,6 +42,8 @@ memory_state d = record {
   longs = d.longs;
   shorts = d.shorts;
   steady = is_empty_list d.failing.items;
+  asked = d.log.asked;
+  begins = d.log.begins;
 }
 
 abbrev pub memory_view : MemoryDesk → MemoryState
@@ -50,7 +52,7 @@ memory_view d = record { desk = memory_state d; calls = d.calls; taken = λ call
 abbrev pub empty_slot : SlotState
 empty_slot = record { out = Some []; named = None; begun = false }
 
--- no files, empty slots that are neither begun nor named, all counts 0, no call to fail
+-- no files, empty slots that are neither begun nor named, all counts 0, no call to fail, nothing asked
 abbrev pub empty_state : DeskState
 empty_state = record {
   held = Some (λ name. None);
@@ -60,6 +62,8 @@ empty_state = record {
   longs = 0;
   shorts = 0;
   steady = true;
+  asked = [];
+  begins = [];
 }
 
 -- a new desk, before its first call

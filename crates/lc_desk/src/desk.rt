@@ -1,5 +1,5 @@
 // The outside world as the program sees it.
-ghost use Rattle.std.specs.Prelude.{◌≡◌, ◌<◌, ◌≤◌, ℕ, [], List, length, OnOk, OnErr, IsErrOf, Some, None};
+ghost use Rattle.std.specs.Prelude.{◌≡◌, ◌<◌, ◌≤◌, ◌++◌, ◌∷◌, ℕ, [], List, length, OnOk, OnErr, IsErrOf, Some, None};
 ghost use Rattle.lc_desk.specs.Causes.{Rose};
 ghost use Rattle.lc_desk.specs.Desk.{DeskState, OnlyReads, OnlySlot, CanPut, Told, slot_at, fault_at, opened, appended, TookPart};
 ghost use Rattle.lc_desk.specs.Words.{slot_word, read_stop_text, put_stop_text};
@@ -110,9 +110,10 @@ impl std::error::Error for PutStop {}
 /// Files that are read by name, and four slots that are written.
 ///
 /// It counts what went wrong: the faults of reads and of each slot, the reads that found no file, those that found more
-/// than their limit, and the begins and puts that found no memory. No count ever falls.
+/// than their limit, and the begins and puts that found no memory. No count ever falls. Contracts also know the names that
+/// it was asked to read, and the slots and names that it was asked to begin, each in order; a run keeps no bytes for them.
 pub trait Desk {
-    /// The files that it holds, its slots and its counts.
+    /// The files that it holds, its slots, its counts, and what it was asked.
     ghost state: { Self → DeskState };
 
     /// Reads a file of at most `limit` bytes. After `Ok`, `into` is exactly the file's bytes, and after a refusal it is empty.
@@ -127,6 +128,7 @@ pub trait Desk {
         ensures long { IsErrOf result ReadStop.Long → Rose (state self.old).longs (state self.new).longs }
         ensures long_told { IsErrOf result ReadStop.Long → Told (state self.old).held name.now (λ file. (bytes : List ℕ) × (file ≡ Some bytes) × (limit < length bytes)) }
         ensures failed { IsErrOf result ReadStop.Failed → Rose (state self.old).faults.reads (state self.new).faults.reads }
+        ensures asked { (state self.new).asked ≡ (state self.old).asked ++ name.now ∷ [] }
         ensures same { OnlyReads (state self.old) (state self.new) };
 
     /// Leaves the slot empty, under this name. After a refusal the slot and its name are as they were.
@@ -137,6 +139,7 @@ pub trait Desk {
         ensures kept { OnErr result ((state self.new).slots ≡ (state self.old).slots) }
         ensures failed { IsErrOf result PutStop.Failed → Rose (fault_at (state self.old).faults slot) (fault_at (state self.new).faults slot) }
         ensures memory { IsErrOf result PutStop.Memory → Rose (state self.old).shorts (state self.new).shorts }
+        ensures asked { (state self.new).begins ≡ (state self.old).begins ++ (slot, name.now) ∷ [] }
         ensures same { OnlySlot slot (state self.old) (state self.new) };
 
     /// Appends the piece to the slot, which was begun before, or is Report or Note.
@@ -150,5 +153,6 @@ pub trait Desk {
         ensures part { IsErrOf result PutStop.Failed → TookPart piece.now (slot_at (state self.old).slots slot) (slot_at (state self.new).slots slot) }
         ensures memory { IsErrOf result PutStop.Memory → Rose (state self.old).shorts (state self.new).shorts }
         ensures kept { IsErrOf result PutStop.Memory → (state self.new).slots ≡ (state self.old).slots }
+        ensures asked { (state self.new).begins ≡ (state self.old).begins }
         ensures same { OnlySlot slot (state self.old) (state self.new) };
 }

@@ -1,5 +1,5 @@
 // The desk of the operating system: files by their paths, Report on standard output, Note on standard error.
-ghost use Rattle.std.specs.Prelude.{◌≡◌, ◌≢◌, ◌<◌, ◌≤◌, ℕ, [], List, length, None, Some, OnOk, OnErr, IsErrOf, IsSome, Err};
+ghost use Rattle.std.specs.Prelude.{◌≡◌, ◌≢◌, ◌<◌, ◌≤◌, ◌++◌, ◌∷◌, ℕ, [], List, length, None, Some, OnOk, OnErr, IsErrOf, IsSome, Err};
 ghost use Rattle.lc_desk.specs.Causes.{Rose};
 ghost use Rattle.lc_desk.specs.Desk.{CanPut, OnlyReads, OnlySlot, Told, TookPart, appended, fault_at, opened, slot_at};
 ghost use Rattle.lc_desk.specs.Effects.{after_begin, after_put, after_read};
@@ -116,10 +116,11 @@ impl<'a, R: Files + Print, E: Print> Desk for HostDesk<'a, R, E> {
         ensures long { IsErrOf result ReadStop.Long → Rose (tally_state self.old.tally).longs (tally_state self.new.tally).longs }
         ensures long_told { IsErrOf result ReadStop.Long → Told (tally_state self.old.tally).held name.now (λ file. (bytes : List ℕ) × (file ≡ Some bytes) × (limit < length bytes)) }
         ensures failed { IsErrOf result ReadStop.Failed → Rose (tally_state self.old.tally).faults.reads (tally_state self.new.tally).faults.reads }
+        ensures asked { (tally_state self.new.tally).asked ≡ (tally_state self.old.tally).asked ++ name.now ∷ [] }
         ensures same { OnlyReads (tally_state self.old.tally) (tally_state self.new.tally) }
 
         // Exactly what it counts.
-        ensures after { tally_state self.new.tally ≡ after_read result (tally_state self.old.tally) }
+        ensures after { tally_state self.new.tally ≡ after_read result name.now (tally_state self.old.tally) }
         // The files of the slots stay as they are.
         ensures files_kept { (self.new.picture ≡ self.old.picture) × (self.new.bounds ≡ self.old.bounds) }
     {
@@ -128,7 +129,7 @@ impl<'a, R: Files + Print, E: Print> Desk for HostDesk<'a, R, E> {
         if outcome.is_err() {
             into.clear();
         }
-        self.tally.read(outcome);
+        self.tally.read(name, outcome);
         outcome
     }
 
@@ -138,10 +139,11 @@ impl<'a, R: Files + Print, E: Print> Desk for HostDesk<'a, R, E> {
         ensures kept { OnErr result ((tally_state self.new.tally).slots ≡ (tally_state self.old.tally).slots) }
         ensures failed { IsErrOf result PutStop.Failed → Rose (fault_at (tally_state self.old.tally).faults slot) (fault_at (tally_state self.new.tally).faults slot) }
         ensures memory { IsErrOf result PutStop.Memory → Rose (tally_state self.old.tally).shorts (tally_state self.new.tally).shorts }
+        ensures asked { (tally_state self.new.tally).begins ≡ (tally_state self.old.tally).begins ++ (slot, name.now) ∷ [] }
         ensures same { OnlySlot slot (tally_state self.old.tally) (tally_state self.new.tally) }
 
         // Exactly what it counts, and which slots it opens.
-        ensures after { tally_state self.new.tally ≡ after_begin result slot [] (tally_state self.old.tally) }
+        ensures after { tally_state self.new.tally ≡ after_begin result slot name.now (tally_state self.old.tally) }
         // The files, of which a refusal leaves each as it was.
         ensures picture_made { OnOk result (slot ≡ Slot.Picture → IsSome self.new.picture) }
         ensures bounds_made { OnOk result (slot ≡ Slot.Bounds → IsSome self.new.bounds) }
@@ -155,7 +157,7 @@ impl<'a, R: Files + Print, E: Print> Desk for HostDesk<'a, R, E> {
             Slot::Report => Ok(()),
             Slot::Note => Ok(()),
         };
-        self.tally.begin(slot, outcome);
+        self.tally.begin(slot, name, outcome);
         outcome
     }
 
@@ -167,6 +169,7 @@ impl<'a, R: Files + Print, E: Print> Desk for HostDesk<'a, R, E> {
         ensures part { IsErrOf result PutStop.Failed → TookPart piece.now (slot_at (tally_state self.old.tally).slots slot) (slot_at (tally_state self.new.tally).slots slot) }
         ensures memory { IsErrOf result PutStop.Memory → Rose (tally_state self.old.tally).shorts (tally_state self.new.tally).shorts }
         ensures kept { IsErrOf result PutStop.Memory → (tally_state self.new.tally).slots ≡ (tally_state self.old.tally).slots }
+        ensures asked { (tally_state self.new.tally).begins ≡ (tally_state self.old.tally).begins }
         ensures same { OnlySlot slot (tally_state self.old.tally) (tally_state self.new.tally) }
 
         // Exactly what it counts.

@@ -4,6 +4,7 @@
 mod desk;
 mod host;
 mod kept;
+mod log;
 mod memory;
 mod streams;
 mod tally;

@@ -1,5 +1,5 @@
 // A desk in memory, whose calls can be made to fail.
-ghost use Rattle.std.specs.Prelude.{◌≡◌, ◌==◌, ◌<◌, ◌≤◌, length, IsErrOf, ℕ, [], List, OnOk, OnErr, Some, None, false, if◌then◌else◌, MatchOption, IsOkUnless, Err, ◌⊎◌};
+ghost use Rattle.std.specs.Prelude.{◌≡◌, ◌==◌, ◌<◌, ◌≤◌, ◌++◌, ◌∷◌, length, IsErrOf, ℕ, [], List, OnOk, OnErr, Some, None, false, if◌then◌else◌, MatchOption, IsOkUnless, Err, ◌⊎◌};
 ghost use Rattle.std.specs.Str.{bytes_eq};
 ghost use Rattle.lc_desk.specs.Causes.{Rose};
 ghost use Rattle.lc_desk.specs.Desk.{slot_at, fault_at, opened, appended, TookPart, OnlyReads, OnlySlot, CanPut, Told};
@@ -7,6 +7,7 @@ ghost use Rattle.lc_desk.specs.Effects.{after_read, after_begin, after_put, part
 ghost use Rattle.lc_desk.specs.Memory.{memory_state, memory_view, empty_view, taken_at as taken_by, file_of, taken_next, read_stop, called, or_else};
 
 use crate::kept::Kept;
+use crate::log::Log;
 use crate::{Desk, PutStop, ReadStop, Slot};
 use lc_num::Memory;
 use std::alloc::Global;
@@ -36,6 +37,7 @@ pub struct MemoryDesk {
     shorts: u64,
     calls: u64,
     failing: Vec<Failure>,
+    log: Log,
 }
 
 // What the first entry for the call says.
@@ -63,6 +65,7 @@ impl MemoryDesk {
             shorts: 0,
             calls: 0,
             failing: Vec::new(alloc),
+            log: Log::new(),
         }
     }
 
@@ -117,13 +120,15 @@ impl Desk for MemoryDesk {
         ensures long { IsErrOf result ReadStop.Long → Rose (memory_state self.old).longs (memory_state self.new).longs }
         ensures long_told { IsErrOf result ReadStop.Long → Told (memory_state self.old).held name.now (λ file. (bytes : List ℕ) × (file ≡ Some bytes) × (limit < length bytes)) }
         ensures failed { IsErrOf result ReadStop.Failed → Rose (memory_state self.old).faults.reads (memory_state self.new).faults.reads }
+        ensures asked { (memory_state self.new).asked ≡ (memory_state self.old).asked ++ name.now ∷ [] }
         ensures same { OnlyReads (memory_state self.old) (memory_state self.new) }
 
         // Exactly what it answers, and what it leaves.
         ensures answer { MatchOption (read_stop (memory_view self.old) name.now limit) (IsOkUnless result ReadStop.Memory) (λ stop. result ≡ Err stop) }
-        ensures after { memory_view self.new ≡ called (after_read result) (memory_view self.old) }
+        ensures after { memory_view self.new ≡ called (after_read result name.now) (memory_view self.old) }
     {
         into.clear();
+        self.log.read(name);
         self.calls = self.calls.saturating_add(1);
         if taken_at(self.calls, &self.failing).is_some() {
             self.read_faults = self.read_faults.saturating_add(1);
@@ -153,12 +158,14 @@ impl Desk for MemoryDesk {
         ensures kept { OnErr result ((memory_state self.new).slots ≡ (memory_state self.old).slots) }
         ensures failed { IsErrOf result PutStop.Failed → Rose (fault_at (memory_state self.old).faults slot) (fault_at (memory_state self.new).faults slot) }
         ensures memory { IsErrOf result PutStop.Memory → Rose (memory_state self.old).shorts (memory_state self.new).shorts }
+        ensures asked { (memory_state self.new).begins ≡ (memory_state self.old).begins ++ (slot, name.now) ∷ [] }
         ensures same { OnlySlot slot (memory_state self.old) (memory_state self.new) }
 
         // Exactly what it answers, and what it leaves.
         ensures answer { MatchOption (taken_next (memory_view self.old)) (IsOkUnless result PutStop.Memory) (λ _. result ≡ Err PutStop.Failed) }
         ensures after { memory_view self.new ≡ called (after_begin result slot name.now) (memory_view self.old) }
     {
+        self.log.begin(&slot, name);
         self.calls = self.calls.saturating_add(1);
         let taken = taken_at(self.calls, &self.failing);
         let alloc = self.alloc;
@@ -179,6 +186,7 @@ impl Desk for MemoryDesk {
         ensures part { IsErrOf result PutStop.Failed → TookPart piece.now (slot_at (memory_state self.old).slots slot) (slot_at (memory_state self.new).slots slot) }
         ensures memory { IsErrOf result PutStop.Memory → Rose (memory_state self.old).shorts (memory_state self.new).shorts }
         ensures kept { IsErrOf result PutStop.Memory → (memory_state self.new).slots ≡ (memory_state self.old).slots }
+        ensures asked { (memory_state self.new).begins ≡ (memory_state self.old).begins }
         ensures same { OnlySlot slot (memory_state self.old) (memory_state self.new) }
 
         // Exactly what it answers, and what it leaves.

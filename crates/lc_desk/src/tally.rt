@@ -1,10 +1,11 @@
-// What the desk of the system counts, and which of its slots were begun.
-ghost use Rattle.std.specs.Prelude.{◌≡◌, ◌≤◌, [], OnOk, OnErr, IsErrOf, IsTrue, true, false};
+// What the desk of the system counts, which of its slots were begun, and what it was asked.
+ghost use Rattle.std.specs.Prelude.{◌≡◌, ◌≤◌, ◌++◌, ◌∷◌, [], OnOk, OnErr, IsErrOf, IsTrue, true, false};
 ghost use Rattle.lc_desk.specs.Causes.{Rose};
 ghost use Rattle.lc_desk.specs.Desk.{OnlyReads, OnlySlot, slot_at, fault_at};
 ghost use Rattle.lc_desk.specs.Effects.{after_read, after_begin, after_put, faults_after, shorts_after};
 ghost use Rattle.lc_desk.specs.Host.{tally_state, untold_state};
 
+use crate::log::Log;
 use crate::{PutStop, ReadStop, Slot};
 
 #[derive(Drop)]
@@ -23,6 +24,7 @@ pub(crate) struct Tally {
     pub(crate) absents: u64,
     pub(crate) longs: u64,
     pub(crate) shorts: u64,
+    log: Log,
 }
 
 impl SlotTally {
@@ -80,17 +82,19 @@ impl Tally {
             absents: 0,
             longs: 0,
             shorts: 0,
+            log: Log::new(),
         }
     }
 
     // Counts a read, where it was refused.
-    pub(crate) fn read(&mut self, outcome: Result<(), ReadStop>)
+    pub(crate) fn read(&mut self, name: &str, outcome: Result<(), ReadStop>)
         ensures absent { IsErrOf outcome ReadStop.Absent → Rose self.old.absents self.new.absents }
         ensures long { IsErrOf outcome ReadStop.Long → Rose self.old.longs self.new.longs }
         ensures failed { IsErrOf outcome ReadStop.Failed → Rose self.old.reads self.new.reads }
         ensures same { OnlyReads (tally_state self.old) (tally_state self.new) }
-        ensures after { tally_state self.new ≡ after_read outcome (tally_state self.old) }
+        ensures after { tally_state self.new ≡ after_read outcome name.now (tally_state self.old) }
     {
+        self.log.read(name);
         match outcome {
             Ok(()) => {}
             Err(ReadStop::Absent) => self.absents = self.absents.saturating_add(1),
@@ -101,14 +105,15 @@ impl Tally {
     }
 
     // Counts a begin, and opens the slot where it went well.
-    pub(crate) fn begin(&mut self, slot: Slot, outcome: Result<(), PutStop>)
+    pub(crate) fn begin(&mut self, slot: Slot, name: &str, outcome: Result<(), PutStop>)
         ensures begun { OnOk outcome (IsTrue (slot_at (tally_state self.new).slots slot).begun) }
         ensures kept { OnErr outcome ((tally_state self.new).slots ≡ (tally_state self.old).slots) }
         ensures failed { IsErrOf outcome PutStop.Failed → Rose (fault_at (tally_state self.old).faults slot) (fault_at (tally_state self.new).faults slot) }
         ensures memory { IsErrOf outcome PutStop.Memory → Rose self.old.shorts self.new.shorts }
         ensures same { OnlySlot slot (tally_state self.old) (tally_state self.new) }
-        ensures after { tally_state self.new ≡ after_begin outcome slot [] (tally_state self.old) }
+        ensures after { tally_state self.new ≡ after_begin outcome slot name.now (tally_state self.old) }
     {
+        self.log.begin(&slot, name);
         let shorts = &mut self.shorts;
         match slot {
             Slot::Picture => self.picture.begin(shorts, outcome),

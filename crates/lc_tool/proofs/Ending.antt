@@ -1,103 +1,126 @@
 -- Ends of a run, by its steps.
-use Rattle.std.proofs.Common.{◌≡◌, ℕ, List, refl, sym, ◌∙◌, ap, subst, Option, None, IfSome, Result, Ok, Err, OnOk, OnErr, IfErr}
+use Rattle.std.proofs.Common.{◌≡◌, ℕ, ◌+◌, List, refl, sym, ◌∙◌, ap, subst, Option, Some, None, IfSome, IfOk, Ok, inr, [], ◌∷◌, append-nil, Contains, lit<}
+use Rattle.std.proofs.lemmas.List.Elements.{All-cons, All-nil}
+use Rattle.lc_desk.specs.Calls.{AreOn, Made, put, slot_of}
+use Rattle.lc_desk.specs.Causes.{Rose}
+use Rattle.lc_desk.specs.Desk.{DeskState, Files, OnlySlot, TookPart, with_slot}
 use Rattle.lc_desk.specs.declared.desk.Slot.{Slot}
 use Rattle.lc_desk.specs.declared.desk.Slot.TheVariants.{Report}
-use Rattle.lc_desk.specs.Causes.{Rose}
-use Rattle.lc_desk.proofs.RoseLemmas.{Rose-since, Rose-until}
-use Rattle.lc_desk.specs.Desk.{DeskState, Files, Later, OnlyReads, OnlySlot, TookPart, appended, fault_at, with_slot}
+use Rattle.lc_frame.specs.Stops.{Broke, StoppedIn}
+use Rattle.lc_frame.specs.declared.stop.FrameStop.{FrameStop}
+use Rattle.lc_frame.specs.declared.stop.FrameStop.TheVariants as frame
 use Rattle.lc_tool.specs.declared.status.Status.{Status}
 use Rattle.lc_tool.specs.declared.status.Status.TheVariants.{Done, Usage, Stopped, Unwritten}
-use Rattle.lc_tool.specs.declared.status.WriteStop.{WriteStop}
-use Rattle.lc_tool.specs.declared.status.WriteStop.TheVariants as write
-use Rattle.lc_tool.specs.Course.{Course, and_then, at_once}
-use Rattle.lc_tool.specs.Written.{Written, Writing, Partly, IsWritten, wrote}
-use Rattle.lc_tool.specs.Outcome.{IsReportOnly}
-use Rattle.lc_tool.specs.Ends.{Ends, HasFailed}
-use Rattle.lc_tool.specs.Settled.{IsStopOf, Settled}
-use Rattle.lc_tool.proofs.Keeps.{later_then, fault_later}
-use Rattle.lc_tool.proofs.Courses.{told_both, told_always, went_end}
-use Rattle.lc_tool.proofs.Stopping.{stopped_next}
+use Rattle.lc_tool.specs.Course.{Course, and_then, at_once, told}
+use Rattle.lc_tool.specs.Ends.{Began, Ends, Counts, write_line}
+use Rattle.lc_tool.specs.Noted.{Noted}
+use Rattle.lc_tool.specs.Stopped.{Gave, Went}
+use Rattle.lc_tool.specs.Work.{Work}
+use Rattle.lc_tool.proofs.Keeps.{reads_none}
+use Rattle.lc_tool.proofs.Courses.{told_as, went_on, went_then, gave_once}
+use Rattle.lc_tool.proofs.Stopping.{stopped_then}
 
--- reads, and then a first part of the outputs
-writing_later : (w : Written) (before mid now : DeskState) → OnlyReads before mid → Writing w mid now → Writing w before now
-writing_later w before mid now reads writing = record {
-  picture = subst (λ s. Partly w.picture s.picture now.slots.picture) reads.slots writing.picture;
-  bounds = subst (λ s. Partly w.bounds s.bounds now.slots.bounds) reads.slots writing.bounds;
-  report = subst (λ s. TookPart w.report s.report now.slots.report) reads.slots writing.report;
-  note = writing.note ∙ ap (λ s. s.note) reads.slots;
-  later = later_then before mid now reads.later writing.later;
-}
+-- ---- a course that is over
 
-failed_since : (stop : WriteStop) (w : Written) (before mid now : DeskState) → Later before mid → HasFailed stop w mid now → HasFailed stop w before now
-failed_since write.Memory w before mid now later h = h
-failed_since (write.Failed slot) w before mid now later h = (h.0, Rose-since _ _ _ (fault_later slot before mid later) h.1)
+-- what is to be written is known at once
+began_now : (slots : List Slot) (work : Work) (x : DeskState) → AreOn slots work.calls → Began slots (Some (at_once (Ok work))) work x x
+began_now slots work x on = record { on = on; reads = reads_none x; told = gave_once work x }
 
-ends_next_held : {A : Type 0} (status : Status) (shape : Written → Type 0) (held : Option Files) (step : Files → Course A) (next : Files → A → Course Written) (a : A) (before mid now : DeskState) → OnlyReads before mid → IfSome held (λ files. (step files).end ≡ Ok a) → Ends status shape held (λ files. next files a) mid now → Ends status shape held (λ files. and_then (step files) (next files)) before now
-ends_next_held Done shape held step next a before mid now reads stepped h = record {
-  written = h.written;
-  like = h.like;
-  told = told_both held _ _ _ (λ files e f. went_end (step files) (next files) a e ∙ f) stepped h.told;
-  slots = h.slots ∙ ap (wrote h.written) reads.slots;
-  later = later_then before mid now reads.later h.later;
-}
-ends_next_held Usage shape held step next a before mid now reads stepped h = h
-ends_next_held (Stopped stop) shape held step next a before mid now reads stepped h = stopped_next stop held step next a before mid now reads stepped h
-ends_next_held (Unwritten stop) shape held step next a before mid now reads stepped h = record {
-  written = h.written;
-  like = h.like;
-  told = told_both held _ _ _ (λ files e f. went_end (step files) (next files) a e ∙ f) stepped h.told;
-  cause = failed_since stop h.written before mid now reads.later h.cause;
+-- all calls were made
+pub done_now : (slots : List Slot) (work : Work) (x y : DeskState) → AreOn slots work.calls → Made work.calls x y → Ends Done slots (Some (at_once (Ok work))) x y
+done_now slots work x y on made = record { work = work; start = x; began = began_now slots work x on; made = made }
+
+-- a call was refused, which was told on Note
+pub broken_now : (stop : FrameStop) (slots : List Slot) (work : Work) (x y z : DeskState) → AreOn slots work.calls → StoppedIn stop work.calls x y → Noted (write_line stop) y z → z.asked ≡ y.asked → Ends (Unwritten stop) slots (Some (at_once (Ok work))) x z
+broken_now stop slots work x y z on broke noted same = record { work = work; start = x; began = began_now slots work x on; mid = y; broke = broke; noted = noted; asked = same }
+
+-- a refused call is a stop
+pub stopped_by : (stop : FrameStop) (work : Work) (x y : DeskState) → Broke stop work.calls x y → StoppedIn stop work.calls x y
+stopped_by (frame.Write slot) work x y broke = broke
+stopped_by frame.Memory work x y broke = inr broke
+
+-- all is done, and the counter has risen by the evaluations
+pub counts_now : (status : Status) (work : Work) (steps_before steps_now : ℕ) → (status ≡ Done → steps_now ≡ steps_before + work.evals) → Counts status (Some (at_once (Ok work))) steps_before steps_now
+counts_now status work steps_before steps_now h = h
+
+-- ---- a later step
+
+-- what a desk does not tell is not said
+less_told : (course : Course Work) (held : Option Files) (P : Course Work → Type 0) → P course → IfSome (told (λ files. course) held) P
+less_told course None P p = tt
+less_told course (Some files) P p = p
+
+began_told : (slots : List Slot) (course : Course Work) (work : Work) (held : Option Files) (x y : DeskState) → Began slots (Some course) work x y → Began slots (told (λ files. course) held) work x y
+began_told slots course work held x y began = record { on = began.on; reads = began.reads; told = less_told course held (Gave work x y) began.told }
+
+-- an end of a course is one over a desk, whether it tells its files or not
+pub ends_told : (status : Status) (slots : List Slot) (course : Course Work) (held : Option Files) (x y : DeskState) → Ends status slots (Some course) x y → Ends status slots (told (λ files. course) held) x y
+ends_told Done slots course held x y h = record { work = h.work; start = h.start; began = began_told slots course h.work held x h.start h.began; made = h.made }
+ends_told Usage slots course held x y h = h
+ends_told (Stopped stop) slots course held x y h = record { line = h.line; form = h.form; cause = h.cause; told = less_told course held _ h.told; noted = h.noted }
+ends_told (Unwritten stop) slots course held x y h = record {
+  work = h.work;
+  start = h.start;
+  began = began_told slots course h.work held x h.start h.began;
   mid = h.mid;
-  writing = writing_later h.written before mid h.mid reads h.writing;
+  broke = h.broke;
   noted = h.noted;
+  asked = h.asked;
 }
+
+began_then : {A : Type 0} (slots : List Slot) (step : Files → Course A) (next : Files → A → Course Work) (a : A) (work : Work) (x y z : DeskState) → Went (told step x.held) a x y → Began slots (told (λ files. next files a) y.held) work y z → Began slots (told (λ files. and_then (step files) (next files)) x.held) work x z
+began_then slots step next a work x y z first began =
+    let later : Went (told (λ files. next files a) y.held) work y z = record { reads = began.reads; told = began.told } in
+    let both = went_then step next a work x y z first later in
+    record { on = began.on; reads = both.reads; told = both.told }
 
 -- the end of a later step is the end of the whole
-pub ends_next : {A : Type 0} (status : Status) (shape : Written → Type 0) (step : Files → Course A) (next : Files → A → Course Written) (a : A) (before mid now : DeskState) → OnlyReads before mid → IfSome before.held (λ files. (step files).end ≡ Ok a) → Ends status shape mid.held (λ files. next files a) mid now → Ends status shape before.held (λ files. and_then (step files) (next files)) before now
-ends_next status shape step next a before mid now reads stepped h = ends_next_held status shape before.held step next a before mid now reads stepped (subst (λ held. Ends status shape held (λ files. next files a) mid now) reads.later.held h)
-
--- ---- a command that writes a line on Report alone
-
-abbrev pub report_only : List ℕ → ℕ → Written
-report_only line evals = record { picture = None; bounds = None; report = line; evals = evals }
-
-is_report_written : (slot : Slot) (line : List ℕ) (evals : ℕ) → slot ≡ Report → IsWritten slot (report_only line evals)
-is_report_written slot line evals e = subst (λ s. IsWritten s (report_only line evals)) (sym e) tt
-
-report_failed : (stop : WriteStop) (line : List ℕ) (evals : ℕ) (before mid now : DeskState) → IsStopOf Report stop before mid → Later mid now → HasFailed stop (report_only line evals) before now
-report_failed write.Memory line evals before mid now h later = tt
-report_failed (write.Failed slot) line evals before mid now h later =
-    (is_report_written slot line evals h.0, subst (λ s. Rose (fault_at before.faults s) (fault_at now.faults s)) (sym h.0) (Rose-until _ _ _ h.1 later.report))
-
-report_writing : (line : List ℕ) (evals : ℕ) (before mid : DeskState) → OnlySlot Report before mid → TookPart line before.slots.report mid.slots.report → Writing (report_only line evals) before mid
-report_writing line evals before mid same part = record {
-  picture = ap (λ s. s.picture) same.slots;
-  bounds = ap (λ s. s.bounds) same.slots;
-  report = part;
-  note = ap (λ s. s.note) same.slots;
-  later = same.later;
+pub ends_next : {A : Type 0} (status : Status) (slots : List Slot) (step : Files → Course A) (next : Files → A → Course Work) (a : A) (x y z : DeskState) → Went (told step x.held) a x y → Ends status slots (told (λ files. next files a) y.held) y z → Ends status slots (told (λ files. and_then (step files) (next files)) x.held) x z
+ends_next Done slots step next a x y z first h = record { work = h.work; start = h.start; began = began_then slots step next a h.work x y h.start first h.began; made = h.made }
+ends_next Usage slots step next a x y z first h = h
+ends_next (Stopped stop) slots step next a x y z first h = stopped_then stop step next a x y z first h
+ends_next (Unwritten stop) slots step next a x y z first h = record {
+  work = h.work;
+  start = h.start;
+  began = began_then slots step next a h.work x y h.start first h.began;
+  mid = h.mid;
+  broke = h.broke;
+  noted = h.noted;
+  asked = h.asked;
 }
 
--- the line on Report, and what follows where it is refused
-pub report_ends : {T : Type 0} (held : Option Files) (line : List ℕ) (evals : ℕ) (result : Result T WriteStop) (status : Status) (before mid now : DeskState)
-    → OnOk result (mid.slots.report ≡ appended line before.slots.report) → OnErr result (TookPart line before.slots.report mid.slots.report)
-    → IfErr result (λ stop. IsStopOf Report stop before mid) → OnlySlot Report before mid → Settled result status mid now
-    → Ends status IsReportOnly held (λ files. at_once (Ok (report_only line evals))) before now
-report_ends held line evals (Ok x) status before mid now put part cause same settled =
-    subst (λ s. Ends s IsReportOnly held (λ files. at_once (Ok (report_only line evals))) before now) (sym settled.0) (record {
-      written = report_only line evals;
-      like = (refl, refl);
-      told = told_always held _ (λ files. refl);
-      slots = ap (λ d. d.slots) settled.1 ∙ same.slots ∙ ap (with_slot before.slots Report) put;
-      later = subst (λ d. Later before d) (sym settled.1) same.later;
-    })
-report_ends held line evals (Err stop) status before mid now put part cause same settled =
-    subst (λ s. Ends s IsReportOnly held (λ files. at_once (Ok (report_only line evals))) before now) (sym settled.0) (record {
-      written = report_only line evals;
-      like = (refl, refl);
-      told = told_always held _ (λ files. refl);
-      cause = report_failed stop line evals before mid now cause settled.1.later;
-      mid = mid;
-      writing = report_writing line evals before mid same part;
-      noted = settled.1;
-    })
+-- the same, where the later step reads nothing
+pub ends_last : {A : Type 0} (status : Status) (slots : List Slot) (step : Files → Course A) (next : A → Work) (a : A) (x y z : DeskState) → Went (told step x.held) a x y → Ends status slots (Some (at_once (Ok (next a)))) y z → Ends status slots (told (λ files. and_then (step files) (λ b. at_once (Ok (next b)))) x.held) x z
+ends_last status slots step next a x y z first h = ends_next status slots step (λ files b. at_once (Ok (next b))) a x y z first (ends_told status slots (at_once (Ok (next a))) y.held y z h)
+
+-- ---- the count of evaluations
+
+-- the count of a later step is that of the whole
+pub counts_last : {A : Type 0} (status : Status) (step : Files → Course A) (next : A → Work) (a : A) (x y : DeskState) (steps_before steps_now : ℕ) → Went (told step x.held) a x y → Counts status (Some (at_once (Ok (next a)))) steps_before steps_now → Counts status (told (λ files. and_then (step files) (λ b. at_once (Ok (next b)))) x.held) steps_before steps_now
+counts_last {A} status step next a x y steps_before steps_now first counted = λ done.
+    told_as x.held step (λ files. and_then (step files) (λ b. at_once (Ok (next b)))) (Gave a x y) (λ course. IfOk course.end (λ w. steps_now ≡ steps_before + w.evals))
+    (λ files p. subst (λ course. IfOk course.end (λ w. steps_now ≡ steps_before + w.evals)) (sym (went_on (step files) (λ b. at_once (Ok (next b))) a p.end)) (counted done)) first.told
+
+-- ---- a line on Report
+
+-- a put on Report that took a part and was refused
+pub report_broke : (line : List ℕ) (x y : DeskState) → OnlySlot Report x y → y.begins ≡ x.begins → TookPart line x.slots.report y.slots.report → Rose x.faults.report y.faults.report → Broke (frame.Write Report) (put Report line ∷ []) x y
+report_broke line x y same begins part rose = (
+  record {
+    done = [];
+    refused = put Report line;
+    rest = [];
+    split = refl;
+    taken = part.count;
+    later = same.later;
+    slots = same.slots ∙ ap (with_slot x.slots Report) part.held;
+    asked = same.asked;
+    begins = begins ∙ sym (append-nil x.begins);
+    cause = rose;
+  },
+  refl,
+)
+
+-- the only put is on Report
+pub report_on : (line : List ℕ) → AreOn (Report ∷ []) (put Report line ∷ [])
+report_on line = All-cons (λ call. Contains (Report ∷ []) (slot_of call)) (put Report line) [] (0, lit< tt, refl) (All-nil (λ call. Contains (Report ∷ []) (slot_of call)))

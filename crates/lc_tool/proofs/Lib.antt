@@ -1,9 +1,15 @@
+pub mod NameLemmas
 pub mod Proper
 pub mod Keeps
 pub mod Noting
+pub mod Wordings
 pub mod Courses
 pub mod Stopping
+pub mod Libraries
 pub mod Ending
 pub mod Running
+pub mod Through
 pub mod Recording
+pub mod Worlds
+pub mod Rendering
 pub mod Probing

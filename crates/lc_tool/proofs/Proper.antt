@@ -6,11 +6,12 @@ use Rattle.lc_num.specs.Vectors.{Within}
 use Rattle.lc_num.specs.declared.vectors.Vec3.{Vec3}
 use Rattle.lc_scan.specs.Decimal.{decimal_of}
 use Rattle.lc_scan.specs.declared.fault.NumFault.{NumFault}
-use Rattle.lc_tool.specs.Words.{Command, probe, in_range, coordinate, vector_of, probe_of, word_at, vector_at, begins, command_of}
+use Rattle.lc_tool.specs.Words.{Command, probe, render, in_range, coordinate, vector_of, probe_of, word_at, vector_at, begins, command_of}
 
 abbrev pub IsProper : Option Command → Type 0
 IsProper None = Unit {0}
 IsProper (Some (probe name place direction)) = Within 50_000_000 place × Within 50_000_000 direction
+IsProper (Some (render name)) = Unit {0}
 
 abbrev Small : ℤ → Type 0
 Small z = unsigned_abs z ≤ 50_000_000
@@ -38,16 +39,20 @@ probe_proper name (Some place) (Some direction) a b = (a, b)
 probe_proper name None direction a b = tt
 probe_proper name (Some place) None a b = tt
 
-chosen_proper : (b : Bool) (o : Option Command) → IsProper o → IsProper (cond b o None)
-chosen_proper true o h = h
-chosen_proper false o h = tt
+chosen_proper : (b : Bool) (o other : Option Command) → IsProper o → IsProper other → IsProper (cond b o other)
+chosen_proper true o other h k = h
+chosen_proper false o other h k = k
 
 read_small : (words : List (List ℕ)) (k : ℕ) → IfSome (vector_at words k) (Within 50_000_000)
 read_small words k =
     vector_small (coordinate (word_at words k)) (coordinate (word_at words (k + 1))) (coordinate (word_at words (k + 2)))
     (word_small (word_at words k)) (word_small (word_at words (k + 1))) (word_small (word_at words (k + 2)))
 
+render_proper : (b : Bool) (name : List ℕ) → IsProper (cond b (Some (render name)) None)
+render_proper b name = chosen_proper b (Some (render name)) None tt tt
+
 pub command_proper : (words : List (List ℕ)) → IsProper (command_of words)
 command_proper words =
-    chosen_proper (begins words (codes "probe") 8) (probe_of (word_at words 1) (vector_at words 2) (vector_at words 5))
+    chosen_proper (begins words (codes "probe") 8) (probe_of (word_at words 1) (vector_at words 2) (vector_at words 5)) _
     (probe_proper (word_at words 1) (vector_at words 2) (vector_at words 5) (read_small words 2) (read_small words 5))
+    (render_proper (begins words (codes "render") 2) (word_at words 1))

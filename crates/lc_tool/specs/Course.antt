@@ -1,5 +1,6 @@
 -- How a command goes by its definition: the names of the files that it reads, in order, and how it ends.
-use Rattle.std.specs.Prelude.{ℕ, List, [], ◌++◌, Result, Ok, Err}
+use Rattle.std.specs.Prelude.{ℕ, List, [], ◌++◌, Option, option_map, Result, Ok, Err}
+use Rattle.lc_desk.specs.Desk.{Files}
 
 -- the status of a refusal, and its line on Note
 pub record Refusal : Type 0 where
@@ -24,3 +25,7 @@ and_then step next = goes_on step.reads step.end next
 -- a step that reads nothing
 abbrev pub at_once : {A : Type 0} → Result A Refusal → Course A
 at_once end = record { reads = []; end = end }
+
+-- the course over the files that a desk holds, where it tells them
+abbrev pub told : {A : Type 0} → (Files → Course A) → Option Files → Option (Course A)
+told course held = option_map course held

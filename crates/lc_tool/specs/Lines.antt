@@ -1,10 +1,9 @@
--- The lines of Note and Report.
+-- The lines of Note.
 use Rattle.std.specs.Prelude.{ℕ, List, ◌++◌, codes, decimal}
 use Rattle.lc_desk.specs.declared.desk.Slot.{Slot}
 use Rattle.lc_desk.specs.declared.desk.Slot.TheVariants.{Picture, Bounds, Report, Note}
-use Rattle.lc_rated.specs.declared.answer.Answer.{Answer}
-
--- ---- Note
+use Rattle.lc_job.specs.Keys.{word}
+use Rattle.lc_job.specs.declared.key.Key.{Key}
 
 abbrev pub memory_line : List ℕ
 memory_line = codes "out of memory\n"
@@ -14,6 +13,10 @@ usage_line = codes "usage: lightcuts probe LIGHTS X Y Z NX NY NZ | render JOB | 
 
 abbrev pub fault_line : List ℕ → ℕ → ℕ → List ℕ
 fault_line name line kind = name ++ (codes ": line " ++ decimal line ++ codes ": kind " ++ decimal kind ++ codes "\n")
+
+-- a required keyword of a job that is missing
+abbrev pub missing_line : List ℕ → Key → List ℕ
+missing_line name key = name ++ (codes ": line 0: kind 5: " ++ word key ++ codes "\n")
 
 abbrev pub absent_line : List ℕ → List ℕ
 absent_line name = name ++ codes ": absent\n"
@@ -34,17 +37,5 @@ write_fault_line slot = slot_word slot ++ codes " write fault\n"
 abbrev pub file_limit : ℕ
 file_limit = 134217728
 
-abbrev pub long_line : List ℕ → List ℕ
-long_line name = name ++ codes ": longer than 134217728 bytes\n"
-
--- ---- Report
-
--- a number, and a blank
-abbrev pub field : ℕ → List ℕ
-field n = decimal n ++ codes " "
-
--- size, evaluations, estimate and bound of an answer, in each channel
-abbrev pub record_line : Answer → List ℕ
-record_line a =
-    field a.size ++ field a.evals ++ field a.est.r ++ field a.est.g ++ field a.est.b ++ field a.bound.r ++ field a.bound.g
-    ++ decimal a.bound.b ++ codes "\n"
+abbrev pub long_line : ℕ → List ℕ → List ℕ
+long_line limit name = name ++ (codes ": longer than " ++ decimal limit ++ codes " bytes\n")

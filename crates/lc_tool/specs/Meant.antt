@@ -1,12 +1,14 @@
 -- The command of the code, as the definitions have it.
 use Rattle.lc_num.specs.Vectors.{Within}
 use Rattle.lc_tool.specs.declared.words.Command.{Command as Read}
-use Rattle.lc_tool.specs.declared.words.Command.TheVariants.{Probe}
-use Rattle.lc_tool.specs.Words.{Command, probe}
+use Rattle.lc_tool.specs.declared.words.Command.TheVariants.{Probe, Render}
+use Rattle.lc_tool.specs.Words.{Command, probe, render}
 
 abbrev pub meant : Read → Command
 meant (Probe lights place direction) = probe lights.now place direction
+meant (Render job) = render job.now
 
 -- each coordinate of the command is at most 5000
 abbrev pub IsInRange : Read → Type 0
 IsInRange (Probe lights place direction) = Within 50_000_000 place × Within 50_000_000 direction
+IsInRange (Render job) = Unit {0}

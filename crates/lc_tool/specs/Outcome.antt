@@ -1,45 +1,104 @@
 -- What a command answers, by its words and the files.
-use Rattle.std.specs.Prelude.{◌≡◌, ℕ, List, [], ◌∷◌, length, Option, Some, None, Result, Ok, Err, if◌then◌else◌, nat_lt}
+use Rattle.std.specs.Prelude.{ℕ, ◌==◌, Bool, List, [], ◌∷◌, ◌++◌, length, map, slice_index, Option, Some, None, Result, Ok, Err, if◌then◌else◌, nat_lt}
+use Rattle.std.specs.List.{list_any}
 use Rattle.lc_num.specs.Vectors.{zero_vector}
 use Rattle.lc_num.specs.Cosines.{scaled}
 use Rattle.lc_num.specs.Faults.{Fault}
 use Rattle.lc_num.specs.declared.vectors.Vec3.{Vec3}
+use Rattle.lc_desk.specs.Calls.{put}
 use Rattle.lc_desk.specs.Desk.{Files}
+use Rattle.lc_desk.specs.declared.desk.Slot.{Slot}
+use Rattle.lc_desk.specs.declared.desk.Slot.TheVariants.{Report}
 use Rattle.lc_geom.specs.declared.triangle.Tri.{Tri}
-use Rattle.lc_light.specs.LightFile.{fault_in, lights}
+use Rattle.lc_obj.specs.ObjFile as obj
+use Rattle.lc_obj.specs.declared.mesh.Mesh.{Mesh}
+use Rattle.lc_mtl.specs.MtlFile as mtl
+use Rattle.lc_mtl.specs.declared.material.Material.{Material}
+use Rattle.lc_light.specs.LightFile as light
 use Rattle.lc_light.specs.declared.lights.Lights.{Lights}
 use Rattle.lc_terms.specs.declared.spot.Spot.{Spot}
 use Rattle.lc_rated.specs.declared.answer.Answer.{Answer}
 use Rattle.lc_rated.specs.Cuts.{answer}
 use Rattle.lc_cut.specs.Forest.{forest_of, trees_of}
+use Rattle.lc_job.specs.JobFile.{first_stop, job_in}
+use Rattle.lc_job.specs.declared.job.Job.{Job}
+use Rattle.lc_job.specs.declared.stop.JobStop.{JobStop}
+use Rattle.lc_job.specs.declared.stop.JobStop.TheVariants as job_stop
+use Rattle.lc_sample.specs.Scenes.{scene_of}
+use Rattle.lc_record.specs.Record.{line_bytes}
+use Rattle.lc_frame.specs.Files.{files as frame_files}
+use Rattle.lc_frame.specs.Frames.{answers_of, evals_of, render_calls, samples}
 use Rattle.lc_tool.specs.declared.status.Source.{Source}
 use Rattle.lc_tool.specs.declared.status.Source.TheVariants as source
+use Rattle.lc_tool.specs.declared.world.World.{World}
 use Rattle.lc_tool.specs.Status.{source_code}
-use Rattle.lc_tool.specs.Course.{Course, Refusal, refuses, and_then, at_once}
-use Rattle.lc_tool.specs.Lines.{usage_line, absent_line, long_line, fault_line, file_limit, record_line}
-use Rattle.lc_tool.specs.Written.{Written}
-use Rattle.lc_tool.specs.Words.{Command, probe, command_of}
+use Rattle.lc_tool.specs.Course.{Course, Refusal, refuses, and_then, at_once, told}
+use Rattle.lc_tool.specs.Lines.{usage_line, absent_line, long_line, fault_line, missing_line, file_limit}
+use Rattle.lc_tool.specs.Work.{Work}
+use Rattle.lc_tool.specs.Words.{Command, probe, render, command_of}
 
 -- ---- reads
 
 -- a file within the limit
-abbrev pub within : List ℕ → Option (List ℕ) → Result (List ℕ) Refusal
-within name None = refuses 7 (absent_line name)
-within name (Some bytes) = if nat_lt file_limit (length bytes) then refuses 10 (long_line name) else Ok bytes
+abbrev pub within : ℕ → List ℕ → Option (List ℕ) → Result (List ℕ) Refusal
+within limit name None = refuses 7 (absent_line name)
+within limit name (Some bytes) = if nat_lt limit (length bytes) then refuses 10 (long_line limit name) else Ok bytes
 
 -- the bytes of a file
-abbrev pub text_of : List ℕ → Files → Course (List ℕ)
-text_of name files = record { reads = name ∷ []; end = within name (files name) }
+abbrev pub text_of : ℕ → List ℕ → Files → Course (List ℕ)
+text_of limit name files = record { reads = name ∷ []; end = within limit name (files name) }
 
 -- a text's value, or the refusal by its first fault
 abbrev pub unless_faulty : {A : Type 0} → Source → List ℕ → Option Fault → A → Result A Refusal
 unless_faulty text name None value = Ok value
 unless_faulty text name (Some fault) value = refuses (source_code text) (fault_line name fault.line fault.kind)
 
+-- a job, or the refusal by the first thing that is wrong with its text; want of memory is nothing that is wrong
+abbrev pub unless_stopped : List ℕ → Option JobStop → Job → Result Job Refusal
+unless_stopped name None job = Ok job
+unless_stopped name (Some job_stop.Memory) job = Ok job
+unless_stopped name (Some (job_stop.Fault line kind)) job = refuses (source_code source.Job) (fault_line name line kind)
+unless_stopped name (Some (job_stop.Missing key)) job = refuses (source_code source.Job) (missing_line name key)
+
+-- the job of a file
+abbrev pub job_of : List ℕ → Files → Course Job
+job_of name files = and_then (text_of file_limit name files) (λ text. at_once (unless_stopped name (first_stop text) (job_in text)))
+
+-- the mesh of a file
+abbrev pub mesh_of : List ℕ → Files → Course Mesh
+mesh_of name files =
+    and_then (text_of file_limit name files) (λ text. at_once (unless_faulty source.Scene name (obj.fault_in text) (obj.mesh text)))
+
+-- the materials of a library, after those before
+abbrev pub library_of : List Material → List ℕ → Files → Course (List Material)
+library_of before name files =
+    and_then (text_of file_limit name files)
+    (λ text. at_once (unless_faulty source.Library name (mtl.fault_in (length before) text) (mtl.materials before text)))
+
+-- the materials of libraries, one after another, after those before
+unfoldable pub libraries_of : List (List ℕ) → List Material → Files → Course (List Material)
+libraries_of [] before files = at_once (Ok before)
+libraries_of (name ∷ later) before files = and_then (library_of before name files) (λ items. libraries_of later items files)
+
 -- the lights of a file
 abbrev pub lights_of : List ℕ → ℕ → Files → Course Lights
 lights_of name seed files =
-    and_then (text_of name files) (λ text. at_once (unless_faulty source.Lights name (fault_in text) (lights text seed)))
+    and_then (text_of file_limit name files)
+    (λ text. at_once (unless_faulty source.Lights name (light.fault_in text) (light.lights text seed)))
+
+-- ---- names
+
+abbrev pub is_slash : ℕ → Bool
+is_slash b = b == 47
+
+-- the name up to and including its last '/'
+unfoldable pub folder_of : List ℕ → List ℕ
+folder_of [] = []
+folder_of (b ∷ later) = if list_any is_slash (b ∷ later) then b ∷ folder_of later else []
+
+-- the file name of a library that a scene names: it is looked for beside the scene, but one that begins with '/' stands alone
+unfoldable pub beside : List ℕ → List ℕ → List ℕ
+beside scene library = if slice_index library 0 == 47 then library else folder_of scene ++ library
 
 -- ---- probe
 
@@ -70,31 +129,68 @@ unfoldable pub probe_answer : Vec3 → Vec3 → Lights → Answer
 probe_answer place direction lights =
     answer probe_size probe_permille (trees_of probe_scene (probe_spot place direction) (forest_of 0 lights))
 
-abbrev pub report_of : Answer → Written
-report_of answer = record { picture = None; bounds = None; report = record_line answer; evals = answer.evals }
+-- the line of the answer on Report
+abbrev pub probe_work : Answer → Work
+probe_work answer = record { calls = put Report (line_bytes answer) ∷ []; evals = answer.evals }
 
-abbrev pub probe_course : List ℕ → Vec3 → Vec3 → Files → Course Written
-probe_course name place direction files = and_then (lights_of name 0 files) (λ lights. at_once (Ok (report_of (probe_answer place direction lights))))
+abbrev pub probe_course : List ℕ → Vec3 → Vec3 → Files → Course Work
+probe_course name place direction files =
+    and_then (lights_of name 0 files) (λ lights. at_once (Ok (probe_work (probe_answer place direction lights))))
+
+-- ---- render
+
+-- the world of a job, a mesh, materials, and lights
+abbrev pub world_by : Job → Mesh → List Material → Lights → World
+world_by job mesh items lights = record { job = job; scene = scene_of mesh items lights job.seed }
+
+-- with the lights of the job
+abbrev pub lit : Job → Mesh → List Material → Files → Course World
+lit job mesh items files = and_then (lights_of job.lights job.seed files) (λ lights. at_once (Ok (world_by job mesh items lights)))
+
+-- with the libraries that the mesh names
+abbrev pub furnished : Job → Mesh → Files → Course World
+furnished job mesh files = and_then (libraries_of (map (beside job.scene) mesh.libs) [] files) (λ items. lit job mesh items files)
+
+-- with the mesh of the job's scene
+abbrev pub built : Job → Files → Course World
+built job files = and_then (mesh_of job.scene files) (λ mesh. furnished job mesh files)
+
+-- the world of a job's file
+unfoldable pub world_of : List ℕ → Files → Course World
+world_of name files = and_then (job_of name files) (λ job. built job files)
+
+-- the picture and the record of a world
+unfoldable pub render_work : World → Work
+render_work world = record {
+  calls = render_calls world.job (answers_of world.job world.scene);
+  evals = evals_of (samples (answers_of world.job world.scene));
+}
+
+abbrev pub render_course : List ℕ → Files → Course Work
+render_course name files = and_then (world_of name files) (λ world. at_once (Ok (render_work world)))
 
 -- ---- all commands
 
-abbrev pub course_of : Option Command → Files → Course Written
+abbrev pub course_of : Option Command → Files → Course Work
 course_of None files = at_once (refuses 2 usage_line)
 course_of (Some (probe name place direction)) files = probe_course name place direction files
+course_of (Some (render name)) files = render_course name files
 
 -- the outcome of these words over these files
-abbrev pub outcome : List (List ℕ) → Files → Course Written
+abbrev pub outcome : List (List ℕ) → Files → Course Work
 outcome words files = course_of (command_of words) files
+
+-- the outcome over the files of a desk, where it tells them
+abbrev pub outcome_told : List (List ℕ) → Option Files → Option (Course Work)
+outcome_told words held = told (outcome words) held
 
 -- the status of an outcome
 abbrev pub status_of : {A : Type 0} → Result A Refusal → ℕ
 status_of (Ok a) = 0
 status_of (Err r) = r.status
 
-abbrev pub IsReportOnly : Written → Type 0
-IsReportOnly w = (w.picture ≡ None) × (w.bounds ≡ None)
-
--- which slots a command writes, whatever the files hold
-abbrev pub WritesLike : Option Command → Written → Type 0
-WritesLike None w = ⊥
-WritesLike (Some (probe name place direction)) w = IsReportOnly w
+-- the slots that a command writes
+abbrev pub slots_of : Option Command → List Slot
+slots_of None = []
+slots_of (Some (probe name place direction)) = Report ∷ []
+slots_of (Some (render name)) = frame_files

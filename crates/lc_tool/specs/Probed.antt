@@ -6,9 +6,9 @@ use Rattle.lc_light.specs.LightFile.{fault_in, lights}
 use Rattle.lc_cut.specs.Contribution.{plain}
 use Rattle.lc_rated.specs.declared.answer.Answer.{Answer}
 use Rattle.lc_rated.specs.Cuts.{IsNear, IsFraction}
-use Rattle.lc_tool.specs.Lines.{record_line}
+use Rattle.lc_record.specs.Record.{line_bytes}
 use Rattle.lc_tool.specs.Outcome.{probe_spot, probe_scene, probe_size, probe_permille, probe_answer}
-use Rattle.lc_tool.specs.Words.{Command, probe, command_of}
+use Rattle.lc_tool.specs.Words.{Command, probe, render, command_of}
 
 -- Report has gained one line, and each other slot is as it was. The line is the answer of the chosen cut. Its estimate
 -- differs from the sum over all lights of the file by at most its bound, and its bound is within the permille of the
@@ -18,7 +18,7 @@ pub record ProbeRecorded (name : List ℕ) (place direction : Vec3) (files : Fil
   pub read : files name ≡ Some text
   pub right : fault_in text ≡ None
   pub answer : Answer
-  pub recorded : now.slots ≡ record before.slots { report = appended (record_line answer) before.slots.report }
+  pub recorded : now.slots ≡ record before.slots { report = appended (line_bytes answer) before.slots.report }
   pub cut : answer ≡ probe_answer place direction (lights text 0)
   pub near : IsNear (plain probe_scene (probe_spot place direction) (lights text 0)) answer
   pub fraction : (answer.size ≡ probe_size) ⊎ IsFraction probe_permille answer
@@ -29,6 +29,7 @@ pub record ProbeRecorded (name : List ℕ) (place direction : Vec3) (files : Fil
 abbrev pub Recorded : Option Command → Files → DeskState → DeskState → ℕ → ℕ → Type 0
 Recorded None files before now steps_before steps_now = Unit {0}
 Recorded (Some (probe name place direction)) files before now steps_before steps_now = ProbeRecorded name place direction files before now steps_before steps_now
+Recorded (Some (render name)) files before now steps_before steps_now = Unit {0}
 
 -- over a desk that tells its files, the command has left its record
 abbrev pub Records : List (List ℕ) → DeskState → DeskState → ℕ → ℕ → Type 0

@@ -4,8 +4,8 @@ use Rattle.lc_tool.specs.declared.status.Source.{Source}
 use Rattle.lc_tool.specs.declared.status.Source.TheVariants as source
 use Rattle.lc_tool.specs.declared.status.Stop.{Stop}
 use Rattle.lc_tool.specs.declared.status.Stop.TheVariants as stop
-use Rattle.lc_tool.specs.declared.status.WriteStop.{WriteStop}
-use Rattle.lc_tool.specs.declared.status.WriteStop.TheVariants as write
+use Rattle.lc_frame.specs.declared.stop.FrameStop.{FrameStop}
+use Rattle.lc_frame.specs.declared.stop.FrameStop.TheVariants as frame
 use Rattle.lc_tool.specs.declared.status.Status.{Status}
 use Rattle.lc_tool.specs.declared.status.Status.TheVariants.{Done, Usage, Stopped, Unwritten}
 
@@ -23,9 +23,9 @@ stop_code stop.Absent = 7
 stop_code stop.ReadFault = 8
 stop_code stop.Long = 10
 
-abbrev pub write_code : WriteStop → ℕ
-write_code write.Memory = 1
-write_code (write.Failed slot) = 9
+abbrev pub write_code : FrameStop → ℕ
+write_code frame.Memory = 1
+write_code (frame.Write slot) = 9
 
 abbrev pub code : Status → ℕ
 code Done = 0

@@ -13,6 +13,8 @@ texts words = map (λ word. word.now) words
 pub data Command : Type 0 where
   -- the name of a light file, a place, and the direction of a normal
   probe : List ℕ → Vec3 → Vec3 → Command
+  -- the name of a job
+  render : List ℕ → Command
 
 abbrev pub in_range : Result ℤ NumFault → Option ℤ
 in_range (Err fault) = None
@@ -46,4 +48,4 @@ abbrev pub command_of : List (List ℕ) → Option Command
 command_of words =
     if begins words (codes "probe") 8
     then probe_of (word_at words 1) (vector_at words 2) (vector_at words 5)
-    else None
+    else (if begins words (codes "render") 2 then Some (render (word_at words 1)) else None)

@@ -2,17 +2,21 @@
 #![tactic(auto)]
 
 mod fixed;
+mod names;
 mod note;
 mod probe;
 mod program;
 mod read;
-mod record_line;
+mod render;
 mod status;
 mod words;
+mod world;
 mod write;
 
 pub use program::run;
 
+#[cfg(test)]
+mod render_tests;
 #[cfg(test)]
 mod shade_tests;
 #[cfg(test)]

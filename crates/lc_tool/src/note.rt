@@ -1,16 +1,18 @@
 // Lines on Note, put in two pieces without taking memory.
 ghost use Rattle.std.specs.Prelude.{◌≡◌, ◌++◌};
-ghost use Rattle.lc_tool.specs.Lines.{memory_line, usage_line, absent_line, read_fault_line, long_line, fault_line, slot_word, write_fault_line};
+ghost use Rattle.lc_tool.specs.Lines.{memory_line, usage_line, absent_line, read_fault_line, long_line, fault_line, missing_line, slot_word, write_fault_line};
 ghost use Rattle.lc_tool.specs.Noted.{Noted};
 
 use crate::fixed::append;
 use arrayvec::ArrayString;
 use itoa::Buffer;
 use lc_desk::{Desk, Slot};
+use lc_job::Key;
 
 /// Puts the two pieces of a line. After a piece that is refused nothing more is put.
 fn note<D: Desk>(desk: &mut D, first: &str, second: &str)
-    ensures { Noted (first.now ++ second.now) (D.state desk.old) (D.state desk.new) }
+    ensures noted { Noted (first.now ++ second.now) (D.state desk.old) (D.state desk.new) }
+    ensures asked { (D.state desk.new).asked ≡ (D.state desk.old).asked }
 {
     if desk.put(Slot::Note, first.as_bytes()).is_ok() {
         let _ = desk.put(Slot::Note, second.as_bytes());
@@ -18,13 +20,15 @@ fn note<D: Desk>(desk: &mut D, first: &str, second: &str)
 }
 
 pub fn note_memory<D: Desk>(desk: &mut D)
-    ensures { Noted memory_line (D.state desk.old) (D.state desk.new) }
+    ensures noted { Noted memory_line (D.state desk.old) (D.state desk.new) }
+    ensures asked { (D.state desk.new).asked ≡ (D.state desk.old).asked }
 {
     note(desk, "out", " of memory\n");
 }
 
 pub fn note_usage<D: Desk>(desk: &mut D)
-    ensures { Noted usage_line (D.state desk.old) (D.state desk.new) }
+    ensures noted { Noted usage_line (D.state desk.old) (D.state desk.new) }
+    ensures asked { (D.state desk.new).asked ≡ (D.state desk.old).asked }
 {
     note(
         desk,
@@ -34,25 +38,47 @@ pub fn note_usage<D: Desk>(desk: &mut D)
 }
 
 pub fn note_absent<D: Desk>(desk: &mut D, name: &str)
-    ensures { Noted (absent_line name.now) (D.state desk.old) (D.state desk.new) }
+    ensures noted { Noted (absent_line name.now) (D.state desk.old) (D.state desk.new) }
+    ensures asked { (D.state desk.new).asked ≡ (D.state desk.old).asked }
 {
     note(desk, name, ": absent\n");
 }
 
 pub fn note_read_fault<D: Desk>(desk: &mut D, name: &str)
-    ensures { Noted (read_fault_line name.now) (D.state desk.old) (D.state desk.new) }
+    ensures noted { Noted (read_fault_line name.now) (D.state desk.old) (D.state desk.new) }
+    ensures asked { (D.state desk.new).asked ≡ (D.state desk.old).asked }
 {
     note(desk, name, ": read fault\n");
 }
 
-pub fn note_long<D: Desk>(desk: &mut D, name: &str)
-    ensures { Noted (long_line name.now) (D.state desk.old) (D.state desk.new) }
+/// A file is longer than so many bytes.
+pub fn note_long<D: Desk>(desk: &mut D, name: &str, limit: u64)
+    ensures noted { Noted (long_line limit name.now) (D.state desk.old) (D.state desk.new) }
+    ensures asked { (D.state desk.new).asked ≡ (D.state desk.old).asked }
 {
-    note(desk, name, ": longer than 134217728 bytes\n");
+    let mut digits = Buffer::new();
+    let mut rest = ArrayString::<64>::new();
+    append(&mut rest, ": longer than ");
+    append(&mut rest, digits.format(limit));
+    append(&mut rest, " bytes\n");
+    note(desk, name, rest.as_str());
+}
+
+/// A job lacks a required keyword.
+pub fn note_missing<D: Desk>(desk: &mut D, name: &str, key: Key)
+    ensures noted { Noted (missing_line name.now key) (D.state desk.old) (D.state desk.new) }
+    ensures asked { (D.state desk.new).asked ≡ (D.state desk.old).asked }
+{
+    let mut rest = ArrayString::<64>::new();
+    append(&mut rest, ": line 0: kind 5: ");
+    append(&mut rest, key.word());
+    append(&mut rest, "\n");
+    note(desk, name, rest.as_str());
 }
 
 pub fn note_fault<D: Desk>(desk: &mut D, name: &str, line: u32, kind: u8)
-    ensures { Noted (fault_line name.now line kind) (D.state desk.old) (D.state desk.new) }
+    ensures noted { Noted (fault_line name.now line kind) (D.state desk.old) (D.state desk.new) }
+    ensures asked { (D.state desk.new).asked ≡ (D.state desk.old).asked }
 {
     let mut digits = Buffer::new();
     let mut rest = ArrayString::<128>::new();
@@ -76,7 +102,8 @@ fn word(slot: Slot) -> &'static str
 }
 
 pub fn note_write_fault<D: Desk>(desk: &mut D, slot: Slot)
-    ensures { Noted (write_fault_line slot) (D.state desk.old) (D.state desk.new) }
+    ensures noted { Noted (write_fault_line slot) (D.state desk.old) (D.state desk.new) }
+    ensures asked { (D.state desk.new).asked ≡ (D.state desk.old).asked }
 {
     note(desk, word(slot), " write fault\n");
 }

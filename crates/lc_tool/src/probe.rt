@@ -1,15 +1,16 @@
 // The command `probe`.
-ghost use Rattle.std.specs.Prelude.{◌≡◌, ◌+◌, ◌≤◌, IfSome, IfOk, Ok};
+ghost use Rattle.std.specs.Prelude.{◌≡◌, ◌+◌, [], ◌∷◌, IfOk, Ok, Some};
 ghost use Rattle.lc_num.specs.Vectors.{Within};
 ghost use Rattle.lc_light.specs.Lights.{AreLights};
 ghost use Rattle.lc_terms.specs.Spot.{IsSpot, IsMatte};
-ghost use Rattle.lc_tool.specs.Course.{at_once};
-ghost use Rattle.lc_tool.specs.Outcome.{probe_spot, probe_answer, probe_course, report_of, IsReportOnly};
+ghost use Rattle.lc_desk.specs.declared.desk.Slot.TheVariants.{Report};
+ghost use Rattle.lc_record.specs.Record.{IsSample};
+ghost use Rattle.lc_tool.specs.Course.{at_once, told};
+ghost use Rattle.lc_tool.specs.Outcome.{probe_spot, probe_answer, probe_course, probe_work};
 ghost use Rattle.lc_tool.specs.Ends.{Ends, Counts};
 
 use crate::note::note_memory;
 use crate::read::read_light_file;
-use crate::record_line::record_line;
 use crate::status::{Status, Stop};
 use crate::write::{put_report, settle};
 use lc_cut::{Answer, Ask, Bench, Forest, cut};
@@ -17,6 +18,7 @@ use lc_desk::Desk;
 use lc_hier::Plain;
 use lc_light::Lights;
 use lc_num::{Colour, List, Memory, Steps, Vec3, scaled};
+use lc_record::{Line, line_text};
 use lc_terms::Spot;
 use std::alloc::Global;
 use std::sync::ledger::Ledger;
@@ -64,6 +66,7 @@ fn answer_at<L: Ledger>(
     requires direction { Within 50_000_000 direction }
     requires lights { AreLights lights.now }
     ensures value { IfOk result (λ answer. answer ≡ probe_answer place direction lights.now) }
+    ensures sample { IfOk result (IsSample 65_536) }
     ensures steps { IfOk result (λ answer. steps.new ≡ steps.old + answer.evals) }
 {
     let forest = Forest::build(alloc, lights, 0)?;
@@ -75,11 +78,15 @@ fn answer_at<L: Ledger>(
 
 /// Puts the record line of an answer on Report.
 fn report<D: Desk>(answer: &Answer, desk: &mut D) -> Status
-    ensures { Ends result IsReportOnly (D.state desk.old).held (λ files. at_once (Ok (report_of answer.now))) (D.state desk.old) (D.state desk.new) }
+    requires { IsSample 65_536 answer.now }
+    ensures { Ends result (Report ∷ []) (Some (at_once (Ok (probe_work answer.now)))) (D.state desk.old) (D.state desk.new) }
 {
-    let line = record_line(answer);
-    let written = put_report(desk, line.as_str().as_bytes());
-    settle(desk, written)
+    let mut line = Line::new();
+    line_text(answer, &mut line);
+    match put_report(desk, line.as_slice()) {
+        Ok(()) => Status::Done,
+        Err(stop) => settle(desk, stop),
+    }
 }
 
 /// Answers the light of a light file at a place, for a normal in a direction.
@@ -93,8 +100,8 @@ pub fn probe<D: Desk, L: Ledger>(
 ) -> Status
     requires place { Within 50_000_000 place }
     requires direction { Within 50_000_000 direction }
-    ensures ends { Ends result IsReportOnly (D.state desk.old).held (probe_course name.now place direction) (D.state desk.old) (D.state desk.new) }
-    ensures counted { Counts result (D.state desk.old).held (probe_course name.now place direction) steps.old steps.new }
+    ensures ends { Ends result (Report ∷ []) (told (probe_course name.now place direction) (D.state desk.old).held) (D.state desk.old) (D.state desk.new) }
+    ensures counted { Counts result (told (probe_course name.now place direction) (D.state desk.old).held) steps.old steps.new }
 {
     let lights = match read_light_file(alloc, name, 0, desk) {
         Ok(lights) => lights,

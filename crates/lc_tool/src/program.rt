@@ -1,17 +1,20 @@
 // The call of the program.
-ghost use Rattle.std.specs.Prelude.{◌≡◌, ◌⊎◌, ◌≤◌, None, ◌↔◌, IsTrue};
+ghost use Rattle.std.specs.Prelude.{◌≡◌, ◌⊎◌, ◌≤◌, None, ◌↔◌, IfSome, IsTrue};
 ghost use Rattle.lc_desk.specs.declared.desk.Slot.{Slot};
+ghost use Rattle.lc_frame.specs.declared.stop.FrameStop.TheVariants as frame;
 ghost use Rattle.lc_tool.specs.declared.status.Source.{Source};
 ghost use Rattle.lc_tool.specs.declared.status.Stop.TheVariants as stop;
-ghost use Rattle.lc_tool.specs.declared.status.WriteStop.TheVariants as write;
+ghost use Rattle.lc_tool.specs.declared.world.World.{World};
 ghost use Rattle.lc_tool.specs.Words.{command_of, texts};
 ghost use Rattle.lc_tool.specs.Status.{source_code};
-ghost use Rattle.lc_tool.specs.Outcome.{outcome};
-ghost use Rattle.lc_tool.specs.Ends.{Runs, Counts, Does, Stops, Breaks, HasLine, SameOutputs, IsComplete, no_faults};
+ghost use Rattle.lc_tool.specs.Outcome.{outcome_told};
+ghost use Rattle.lc_tool.specs.Ends.{Runs, Counts, Does, Stops, Breaks, HasFailed, HasLine, SameOutputs, IsComplete, OpensOnly, no_faults};
 ghost use Rattle.lc_tool.specs.Probed.{Records};
+ghost use Rattle.lc_tool.specs.Rendered.{AreCounted, AreFractions, AreNear, HasPicture, HasRecord, HasWorld, IsRenderOf, LeavesParts};
 
 use crate::note::note_usage;
 use crate::probe::probe;
+use crate::render::render;
 use crate::status::Status;
 use crate::words::{Command, read_words};
 use lc_desk::Desk;
@@ -25,8 +28,8 @@ fn attempt<D: Desk, L: Ledger>(
     desk: &mut D,
     steps: &mut Steps<L>,
 ) -> Status
-    ensures runs { Runs (command_of (texts words.now)) result (D.state desk.old).held (D.state desk.old) (D.state desk.new) }
-    ensures counted { Counts result (D.state desk.old).held (outcome (texts words.now)) steps.old steps.new }
+    ensures runs { Runs (command_of (texts words.now)) result (outcome_told (texts words.now) (D.state desk.old).held) (D.state desk.old) (D.state desk.new) }
+    ensures counted { Counts result (outcome_told (texts words.now) (D.state desk.old).held) steps.old steps.new }
 {
     match read_words(words) {
         Some(
@@ -36,6 +39,7 @@ fn attempt<D: Desk, L: Ledger>(
                 direction,
             },
         ) => probe(alloc, lights, place, direction, desk, steps),
+        Some(Command::Render { job }) => render(alloc, job, desk, steps),
         None => {
             note_usage(desk);
             Status::Usage
@@ -53,6 +57,29 @@ pub fn run<D: Desk, L: Ledger>(
     // Where `probe` is done, Report has its record, over a desk that tells its files.
     ensures recorded { result ≡ 0 →
         Records (texts words.now) (D.state desk.old) (D.state desk.new) steps.old steps.new }
+
+    // Where `render` is done over a desk that tells its files, they tell a world of its job. At each sample of the picture the
+    // recorded estimate is within the recorded bound of the sum over all lights; the bound is within the job's permille of
+    // the estimate unless the cut has the job's greatest size; the evaluations are counted, at most twice that size at each
+    // sample; the record's file is exactly the record of these answers, and the picture's file exactly their tone mapping.
+    ensures near { result ≡ 0 → (world : World) → IsRenderOf (texts words.now) (D.state desk.old).held world → AreNear world }
+    ensures fraction { result ≡ 0 → (world : World) → IsRenderOf (texts words.now) (D.state desk.old).held world → AreFractions world }
+    ensures counted { result ≡ 0 → (world : World) → IsRenderOf (texts words.now) (D.state desk.old).held world →
+        AreCounted world steps.old steps.new }
+    ensures record { result ≡ 0 → (world : World) → IsRenderOf (texts words.now) (D.state desk.old).held world →
+        HasRecord world (D.state desk.old) (D.state desk.new) }
+    ensures picture { result ≡ 0 → (world : World) → IsRenderOf (texts words.now) (D.state desk.old).held world →
+        HasPicture world (D.state desk.old) (D.state desk.new) }
+    ensures world { result ≡ 0 → HasWorld (texts words.now) (D.state desk.old).held }
+
+    // Whatever the status, each of the two files of `render` is as it was, or was begun under the job's name and has a first
+    // part of those bytes.
+    ensures parts { (world : World) → IsRenderOf (texts words.now) (D.state desk.old).held world →
+        LeavesParts world (D.state desk.old) (D.state desk.new) }
+
+    // It reads no file but those of the outcome, in order and each once, and begins none but those that it writes.
+    ensures opens { IfSome (outcome_told (texts words.now) (D.state desk.old).held)
+        (OpensOnly (D.state desk.old) (D.state desk.new)) }
 
     // 0 comes only where nothing is refused, and then all is written and nothing else.
     ensures done { result ≡ 0 → Does (texts words.now) (D.state desk.old) (D.state desk.new) }
@@ -74,10 +101,11 @@ pub fn run<D: Desk, L: Ledger>(
 
     // 9 comes only where the count of a slot that the command writes rose. 1 is want of memory.
     ensures write_fault { result ≡ 9 → (slot : Slot)
-        × Breaks (texts words.now) (write.Failed slot) (D.state desk.old) (D.state desk.new) }
+        × Breaks (texts words.now) (frame.Write slot) (D.state desk.old) (D.state desk.new)
+        × HasFailed (texts words.now) slot (D.state desk.old) (D.state desk.new) }
     ensures memory { result ≡ 1 →
         Stops (texts words.now) stop.Memory (D.state desk.old) (D.state desk.new)
-        ⊎ Breaks (texts words.now) write.Memory (D.state desk.old) (D.state desk.new) }
+        ⊎ Breaks (texts words.now) frame.Memory (D.state desk.old) (D.state desk.new) }
     ensures only { result ≤ 10 }
 
     // Each other status than 0 has its line on Note, and nothing is written before all is read.

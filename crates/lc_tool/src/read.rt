@@ -1,24 +1,33 @@
 // Reads of files, and the lines on Note where one is refused.
-ghost use Rattle.std.specs.Prelude.{◌≡◌, ◌≤◌, length, IfOk, IfErr, OnOk, IfSome, Ok};
-ghost use Rattle.lc_desk.specs.Desk.{OnlyReads};
+ghost use Rattle.std.specs.Prelude.{◌≡◌, ◌≤◌, [], length, map, IfOk, IfErr, OnOk};
 ghost use Rattle.lc_light.specs.Lights.{AreLights};
-ghost use Rattle.lc_tool.specs.Outcome.{text_of, lights_of};
-ghost use Rattle.lc_tool.specs.Stopped.{StoppedBy};
+ghost use Rattle.lc_mtl.specs.Materials.{AreMaterials};
+ghost use Rattle.lc_obj.specs.Meshes.{IsMesh};
+ghost use Rattle.lc_job.specs.Jobs.{IsJob};
+ghost use Rattle.lc_tool.specs.Course.{told};
+ghost use Rattle.lc_tool.specs.Lines.{file_limit};
+ghost use Rattle.lc_tool.specs.Outcome.{beside as beside_name, job_of, libraries_of, library_of, lights_of, mesh_of, text_of};
+ghost use Rattle.lc_tool.specs.Stopped.{StoppedBy, Went};
 
-use crate::note::{note_absent, note_fault, note_long, note_memory, note_read_fault};
+use crate::names::beside;
+use crate::note::{note_absent, note_fault, note_long, note_memory, note_missing, note_read_fault};
 use crate::status::{Source, Stop};
 use lc_desk::{Desk, ReadStop};
+use lc_job::{Job, JobStop, read_job};
 use lc_light::{LightStop, Lights, read_lights};
+use lc_mtl::{Materials, MtlStop, read_mtl};
+use lc_num::Name;
+use lc_obj::{Mesh, ObjStop, read_obj};
 use std::alloc::Global;
 
+/// The most bytes of a file that is read, but of a record: 128 MiB.
 const LIMIT: u64 = 134_217_728;
 
 /// Reads a file. A refusal is told on Note.
 pub fn read_text<D: Desk>(alloc: Global, name: &str, desk: &mut D) -> Result<Vec<u8>, Stop>
-    ensures text { IfOk result (λ text. IfSome (D.state desk.old).held (λ files. (text_of name.now files).end ≡ Ok text.items)) }
-    ensures short { IfOk result (λ text. length text.items ≤ 134_217_728) }
-    ensures quiet { OnOk result (OnlyReads (D.state desk.old) (D.state desk.new)) }
-    ensures stopped { IfErr result (λ stop. StoppedBy stop (D.state desk.old).held (text_of name.now) (D.state desk.old) (D.state desk.new)) }
+    ensures went { IfOk result (λ text. Went (told (text_of file_limit name.now) (D.state desk.old).held) text.items (D.state desk.old) (D.state desk.new)) }
+    ensures short { IfOk result (λ text. length text.items ≤ file_limit) }
+    ensures stopped { IfErr result (λ stop. StoppedBy stop (told (text_of file_limit name.now) (D.state desk.old).held) (D.state desk.old) (D.state desk.new)) }
 {
     let mut text = Vec::new(alloc);
     match desk.read(name, LIMIT, &mut text) {
@@ -28,7 +37,7 @@ pub fn read_text<D: Desk>(alloc: Global, name: &str, desk: &mut D) -> Result<Vec
             Err(Stop::Absent)
         }
         Err(ReadStop::Long) => {
-            note_long(desk, name);
+            note_long(desk, name, LIMIT);
             Err(Stop::Long)
         }
         Err(ReadStop::Failed) => {
@@ -42,6 +51,116 @@ pub fn read_text<D: Desk>(alloc: Global, name: &str, desk: &mut D) -> Result<Vec
     }
 }
 
+/// Reads the job of a file. A refusal is told on Note.
+pub fn read_job_file<D: Desk>(alloc: Global, name: &str, desk: &mut D) -> Result<Job, Stop>
+    ensures went { IfOk result (λ job. Went (told (job_of name.now) (D.state desk.old).held) job (D.state desk.old) (D.state desk.new)) }
+    ensures valid { IfOk result IsJob }
+    ensures stopped { IfErr result (λ stop. StoppedBy stop (told (job_of name.now) (D.state desk.old).held) (D.state desk.old) (D.state desk.new)) }
+{
+    let text = read_text(alloc, name, desk)?;
+    match read_job(alloc, &text) {
+        Ok(job) => Ok(job),
+        Err(JobStop::Memory) => {
+            note_memory(desk);
+            Err(Stop::Memory)
+        }
+        Err(JobStop::Fault { line, kind }) => {
+            note_fault(desk, name, line, kind);
+            Err(Stop::Faulty(Source::Job))
+        }
+        Err(JobStop::Missing { key }) => {
+            note_missing(desk, name, key);
+            Err(Stop::Faulty(Source::Job))
+        }
+    }
+}
+
+/// Reads the mesh of a file. A refusal is told on Note.
+pub fn read_scene_file<D: Desk>(alloc: Global, name: &str, desk: &mut D) -> Result<Mesh, Stop>
+    ensures went { IfOk result (λ mesh. Went (told (mesh_of name.now) (D.state desk.old).held) mesh (D.state desk.old) (D.state desk.new)) }
+    ensures valid { IfOk result IsMesh }
+    ensures stopped { IfErr result (λ stop. StoppedBy stop (told (mesh_of name.now) (D.state desk.old).held) (D.state desk.old) (D.state desk.new)) }
+{
+    let text = read_text(alloc, name, desk)?;
+    match read_obj(alloc, &text) {
+        Ok(mesh) => Ok(mesh),
+        Err(ObjStop::Memory) => {
+            note_memory(desk);
+            Err(Stop::Memory)
+        }
+        Err(ObjStop::Fault { line, kind }) => {
+            note_fault(desk, name, line, kind);
+            Err(Stop::Faulty(Source::Scene))
+        }
+    }
+}
+
+/// Reads the materials of a library after those before. A refusal is told on Note.
+fn read_library<D: Desk>(
+    alloc: Global,
+    name: &str,
+    materials: &mut Materials,
+    desk: &mut D,
+) -> Result<(), Stop>
+    requires { AreMaterials materials.old.items }
+    ensures went { OnOk result (Went (told (library_of materials.old.items name.now) (D.state desk.old).held) materials.new.items (D.state desk.old) (D.state desk.new)) }
+    ensures valid { AreMaterials materials.new.items }
+    ensures stopped { IfErr result (λ stop. StoppedBy stop (told (library_of materials.old.items name.now) (D.state desk.old).held) (D.state desk.old) (D.state desk.new)) }
+{
+    let text = read_text(alloc, name, desk)?;
+    match read_mtl(alloc, &text, materials) {
+        Ok(()) => Ok(()),
+        Err(MtlStop::Memory) => {
+            note_memory(desk);
+            Err(Stop::Memory)
+        }
+        Err(MtlStop::Fault { line, kind }) => {
+            note_fault(desk, name, line, kind);
+            Err(Stop::Faulty(Source::Library))
+        }
+    }
+}
+
+/// Reads a library that a scene names. A refusal is told on Note.
+fn read_library_beside<D: Desk>(
+    alloc: Global,
+    scene: &str,
+    library: &str,
+    materials: &mut Materials,
+    desk: &mut D,
+) -> Result<(), Stop>
+    requires { AreMaterials materials.old.items }
+    ensures went { OnOk result (Went (told (library_of materials.old.items (beside_name scene.now library.now)) (D.state desk.old).held) materials.new.items (D.state desk.old) (D.state desk.new)) }
+    ensures valid { AreMaterials materials.new.items }
+    ensures stopped { IfErr result (λ stop. StoppedBy stop (told (library_of materials.old.items (beside_name scene.now library.now)) (D.state desk.old).held) (D.state desk.old) (D.state desk.new)) }
+{
+    match beside(alloc, scene, library) {
+        Ok(name) => read_library(alloc, name.as_str(), materials, desk),
+        Err(_) => {
+            note_memory(desk);
+            Err(Stop::Memory)
+        }
+    }
+}
+
+/// Reads the libraries that a scene names, one after another. A refusal is told on Note.
+pub fn read_libraries<D: Desk>(
+    alloc: Global,
+    scene: &str,
+    libraries: &[Name],
+    desk: &mut D,
+) -> Result<Materials, Stop>
+    ensures went { IfOk result (λ materials. Went (told (libraries_of (map (beside_name scene.now) libraries.now) []) (D.state desk.old).held) materials.items (D.state desk.old) (D.state desk.new)) }
+    ensures valid { IfOk result (λ materials. AreMaterials materials.items) }
+    ensures stopped { IfErr result (λ stop. StoppedBy stop (told (libraries_of (map (beside_name scene.now) libraries.now) []) (D.state desk.old).held) (D.state desk.old) (D.state desk.new)) }
+{
+    let mut materials = Materials::new(alloc);
+    for library in libraries {
+        read_library_beside(alloc, scene, library.as_str(), &mut materials, desk)?;
+    }
+    Ok(materials)
+}
+
 /// Reads the lights of a file. A refusal is told on Note.
 pub fn read_light_file<D: Desk>(
     alloc: Global,
@@ -49,10 +168,9 @@ pub fn read_light_file<D: Desk>(
     seed: u64,
     desk: &mut D,
 ) -> Result<Lights, Stop>
-    ensures lights { IfOk result (λ lights. IfSome (D.state desk.old).held (λ files. (lights_of name.now seed files).end ≡ Ok lights)) }
+    ensures went { IfOk result (λ lights. Went (told (lights_of name.now seed) (D.state desk.old).held) lights (D.state desk.old) (D.state desk.new)) }
     ensures valid { IfOk result AreLights }
-    ensures quiet { OnOk result (OnlyReads (D.state desk.old) (D.state desk.new)) }
-    ensures stopped { IfErr result (λ stop. StoppedBy stop (D.state desk.old).held (lights_of name.now seed) (D.state desk.old) (D.state desk.new)) }
+    ensures stopped { IfErr result (λ stop. StoppedBy stop (told (lights_of name.now seed) (D.state desk.old).held) (D.state desk.old) (D.state desk.new)) }
 {
     let text = read_text(alloc, name, desk)?;
     match read_lights(alloc, &text, seed) {

@@ -1,7 +1,8 @@
 // How a run ends.
 ghost use Rattle.std.specs.Prelude.{◌≡◌};
+ghost use Rattle.lc_tool.specs.Status.{write_code};
 
-use lc_desk::Slot;
+use lc_frame::FrameStop;
 
 /// A text that can be faulty.
 #[derive(Clone, Copy, Debug, PartialEq, Eq)]
@@ -22,20 +23,13 @@ pub enum Stop {
     Long,
 }
 
-/// Why a run breaks off while it writes.
-#[derive(Clone, Copy, Debug, PartialEq, Eq)]
-pub enum WriteStop {
-    Memory,
-    Failed(Slot),
-}
-
 /// How a run ends.
 #[derive(Clone, Copy, Debug, PartialEq, Eq)]
 pub enum Status {
     Done,
     Usage,
     Stopped(Stop),
-    Unwritten(WriteStop),
+    Unwritten(FrameStop),
 }
 
 impl Source {
@@ -69,16 +63,13 @@ impl Stop {
     }
 }
 
-impl WriteStop {
-    ghost use Rattle.lc_tool.specs.Status.{write_code};
-
-    fn code(self) -> u8
-        ensures { result ≡ write_code self }
-    {
-        match self {
-            WriteStop::Memory => 1,
-            WriteStop::Failed(_) => 9,
-        }
+/// The exit status of a begin or a put that was refused.
+fn write_code(stop: FrameStop) -> u8
+    ensures { result ≡ write_code stop }
+{
+    match stop {
+        FrameStop::Memory => 1,
+        FrameStop::Write(_) => 9,
     }
 }
 
@@ -93,7 +84,7 @@ impl Status {
             Status::Done => 0,
             Status::Usage => 2,
             Status::Stopped(stop) => stop.code(),
-            Status::Unwritten(stop) => stop.code(),
+            Status::Unwritten(stop) => write_code(stop),
         }
     }
 }

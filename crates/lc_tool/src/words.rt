@@ -16,6 +16,10 @@ pub enum Command<'a> {
         place: Vec3,
         direction: Vec3,
     },
+    /// The picture and the record of a job.
+    Render {
+        job: &'a str,
+    },
 }
 
 const MOST: u64 = 50_000_000;
@@ -64,11 +68,11 @@ pub fn read_words<'a>(words: &[&'a str]) -> Option<Command<'a>>
     ensures value { option_map meant result ≡ command_of (texts words.now) }
     ensures range { IfSome result IsInRange }
 {
-    let [word, lights, x, y, z, nx, ny, nz] = words else {
-        return None;
-    };
-    if *word != "probe" {
-        return None;
+    match words {
+        [word, lights, x, y, z, nx, ny, nz] if *word == "probe" => {
+            probe_command(lights, vector(x, y, z), vector(nx, ny, nz))
+        }
+        [word, job] if *word == "render" => Some(Command::Render { job }),
+        _ => None,
     }
-    probe_command(lights, vector(x, y, z), vector(nx, ny, nz))
 }

@@ -1,12 +1,24 @@
 use Rattle.std.proofs.Common.{rules}
-use Rattle.lc_tool.proofs.Stopping.{absent_stops, long_stops, read_fault_stops}
+use Rattle.lc_tool.specs.Lines.{file_limit}
+use Rattle.lc_tool.proofs.Stopping.{absent_stops, long_stops, read_fault_stops, short_stops}
 use Rattle.lc_tool.proofs.read.read_text.Goals as goal
 
 pub returns-in-Err-Absent-clause-stopped : goal.returns-in-Err-Absent-clause-stopped
-returns-in-Err-Absent-clause-stopped g c = absent_stops _ _ _ _ c.read.ensures.same (c.in-Err-Absent.ensures.absent (search rules)) (c.in-Err-Absent.ensures.absent_told (search rules)) c.note_absent.ensures
+returns-in-Err-Absent-clause-stopped g c =
+    let read = c.in-Err-Absent.ensures in
+    absent_stops file_limit c.args.name.now _ _ _ read.same read.asked (read.absent (search rules)) (read.absent_told (search rules)) c.note_absent.ensures.noted c.note_absent.ensures.asked
 
 pub returns-in-Err-Long-clause-stopped : goal.returns-in-Err-Long-clause-stopped
-returns-in-Err-Long-clause-stopped g c = long_stops _ _ _ _ c.read.ensures.same (c.in-Err-Long.ensures.long (search rules)) (c.in-Err-Long.ensures.long_told (search rules)) c.note_long.ensures
+returns-in-Err-Long-clause-stopped g c =
+    let read = c.in-Err-Long.ensures in
+    long_stops file_limit c.args.name.now _ _ _ read.same read.asked (read.long (search rules)) (read.long_told (search rules)) c.note_long.ensures.noted c.note_long.ensures.asked
 
 pub returns-in-Err-Failed-clause-stopped : goal.returns-in-Err-Failed-clause-stopped
-returns-in-Err-Failed-clause-stopped g c = read_fault_stops _ _ _ _ c.read.ensures.same (c.in-Err-Failed.ensures.failed (search rules)) c.note_read_fault.ensures
+returns-in-Err-Failed-clause-stopped g c =
+    let read = c.in-Err-Failed.ensures in
+    read_fault_stops file_limit c.args.name.now _ _ _ read.same read.asked (read.failed (search rules)) c.note_read_fault.ensures.noted c.note_read_fault.ensures.asked
+
+pub returns-clause-stopped : goal.returns-clause-stopped
+returns-clause-stopped g c =
+    let read = c.in-Err-Memory.ensures in
+    short_stops file_limit c.args.name.now _ _ _ read.same read.asked c.note_memory.ensures.noted c.note_memory.ensures.asked

@@ -1,0 +1,4 @@
+pub mod HitLemmas
+pub mod SurfaceLemmas
+pub mod SpotLemmas
+pub mod SampleLemmas

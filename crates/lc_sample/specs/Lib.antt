@@ -1,0 +1,17 @@
+pub mod Surfaces
+pub mod Scenes
+pub mod Spots
+pub mod Sampled
+pub use Rattle.lc_num.specs.Vectors
+pub use Rattle.lc_num.specs.Channels
+pub use Rattle.lc_geom.specs.Triangles
+pub use Rattle.lc_geom.specs.Crossing
+pub use Rattle.lc_geom.specs.Hits
+pub use Rattle.lc_obj.specs.Meshes
+pub use Rattle.lc_mtl.specs.Materials
+pub use Rattle.lc_light.specs.Lights
+pub use Rattle.lc_terms.specs.Spot
+pub use Rattle.lc_rated.specs.Cuts
+pub use Rattle.lc_cut.specs.Contribution
+pub use Rattle.lc_cut.specs.Forest
+pub use Rattle.lc_view.specs.Camera

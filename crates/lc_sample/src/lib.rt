@@ -1,0 +1,17 @@
+//! Scenes, the spots that rays find in them, and the light at a ray.
+#![tactic(auto)]
+
+mod laws;
+mod sampling;
+mod scene;
+mod spot;
+mod surface;
+
+pub use laws::sampled_light;
+pub use sampling::sample;
+pub use scene::Scene;
+pub use spot::spot_of;
+pub use surface::{Reflectance, Surface};
+
+#[cfg(test)]
+mod tests;

@@ -1,0 +1,187 @@
+// The spots of hits.
+ghost use Rattle.std.specs.Prelude.{◌≡◌, ◌≤◌, ◌<◌, ◌^◌, Some, pos, ◌*ℤ◌, int_div, int_lt, unsigned_abs};
+ghost use Rattle.lc_num.specs.Vectors.{Within, dot};
+ghost use Rattle.lc_geom.specs.Crossing.{side};
+ghost use Rattle.lc_geom.specs.Triangles.{IsTri};
+ghost use Rattle.lc_terms.specs.Spot.{IsMatte, IsSpot};
+ghost use Rattle.lc_view.specs.Camera.{IsRay};
+ghost use Rattle.lc_sample.specs.Scenes.{triangles_of};
+ghost use Rattle.lc_sample.specs.Surfaces.{IsSurface};
+ghost use Rattle.lc_sample.specs.Spots.{IsHit, facing, lifted, mirrored, mirrored_part, mirrored_view, off_surface, part_at, place_at, spot_on};
+ghost use Rattle.lc_sample.specs.Sampled.{spot_of as spot_by};
+
+use crate::scene::Scene;
+use crate::surface::Surface;
+use lc_geom::{Hit, Tri, normal_of};
+use lc_num::{Colour, Vec3, cross, difference, dot, scaled};
+use lc_terms::Spot;
+use lc_view::Ray;
+
+const NORMAL_LENGTH: u64 = 16_384;
+
+/// The greatest coordinate of a spot.
+const MOST: i64 = 50_100_000;
+
+/// The part `depth/2^30` of a way, rounded down.
+fn part_at(depth: u32, way: i64) -> i64
+    requires depth { depth < 2 ^ 30 }
+    requires way { unsigned_abs way ≤ 2 ^ 29 }
+    ensures value { result ≡ part_at depth way }
+    ensures most { unsigned_abs result ≤ 2 ^ 29 }
+{
+    (way * i64::from(depth)).div_euclid(1_073_741_824)
+}
+
+/// The place on a ray at a depth.
+fn place_at(ray: Ray, depth: u32) -> Vec3
+    requires ray { IsRay ray }
+    requires depth { depth < 2 ^ 30 }
+    ensures value { result ≡ place_at ray depth }
+    ensures within { Within (2 ^ 30) result }
+{
+    Vec3 {
+        x: ray.e.x + part_at(depth, ray.d.x),
+        y: ray.e.y + part_at(depth, ray.d.y),
+        z: ray.e.z + part_at(depth, ray.d.z),
+    }
+}
+
+/// Whether a place lies on the side of a triangle from which its normal points away.
+fn is_behind(e: Vec3, t: &Tri) -> bool
+    requires e { Within 50_100_000 e }
+    requires t { IsTri t.now }
+    ensures { result ≡ int_lt (side t.now e) (pos 0) }
+{
+    let across = cross(difference(t.b, t.a), difference(t.c, t.a));
+    dot(across, difference(e, t.a)) < 0
+}
+
+/// The normal of a triangle on the side of a place.
+fn facing(e: Vec3, t: &Tri) -> Vec3
+    requires e { Within 50_100_000 e }
+    requires t { IsTri t.now }
+    ensures value { result ≡ facing e t.now }
+    ensures within { Within 16384 result }
+{
+    let normal = normal_of(t);
+    if is_behind(e, t) {
+        difference(Vec3 { x: 0, y: 0, z: 0 }, normal)
+    } else {
+        normal
+    }
+}
+
+/// How far a coordinate moves where a place moves 16 units along a normal of length 16384, toward zero.
+fn lift(normal: i64) -> i64
+    requires { unsigned_abs normal ≤ 16384 }
+    ensures value { result ≡ int_div (normal *ℤ pos 16) (pos 16384) }
+    ensures most { unsigned_abs result ≤ 16 }
+{
+    normal * 16 / 16_384
+}
+
+/// A coordinate, moved 16 units off the surface along a normal, and kept in the range of spots.
+fn lifted(at: i64, normal: i64) -> i64
+    requires at { unsigned_abs at ≤ 2 ^ 30 }
+    requires normal { unsigned_abs normal ≤ 16384 }
+    ensures value { result ≡ lifted at normal }
+    ensures most { unsigned_abs result ≤ 50_100_000 }
+{
+    (at + lift(normal)).clamp(-MOST, MOST)
+}
+
+fn off_surface(place: Vec3, normal: Vec3) -> Vec3
+    requires place { Within (2 ^ 30) place }
+    requires normal { Within 16384 normal }
+    ensures value { result ≡ off_surface place normal }
+    ensures within { Within 50_100_000 result }
+{
+    Vec3 {
+        x: lifted(place.x, normal.x),
+        y: lifted(place.y, normal.y),
+        z: lifted(place.z, normal.z),
+    }
+}
+
+fn mirrored_part(turned: i64, squared: i64, n: i64, w: i64) -> i64
+    requires turned { unsigned_abs turned ≤ 2 ^ 30 }
+    requires squared { unsigned_abs squared ≤ 2 ^ 30 }
+    requires n { unsigned_abs n ≤ 16384 }
+    requires w { unsigned_abs w ≤ 16384 }
+    ensures value { result ≡ mirrored_part turned squared n w }
+    ensures most { unsigned_abs result ≤ 2 ^ 60 }
+{
+    2 * turned * n - squared * w
+}
+
+/// The dot product of vectors of at most 16384.
+fn short_dot(a: Vec3, b: Vec3) -> i64
+    requires a { Within 16384 a }
+    requires b { Within 16384 b }
+    ensures value { result ≡ dot a b }
+    ensures most { unsigned_abs result ≤ 2 ^ 30 }
+{
+    dot(a, b) as i64
+}
+
+/// A vector mirrored at a normal, of no given length.
+fn mirrored(n: Vec3, w: Vec3) -> Vec3
+    requires n { Within 16384 n }
+    requires w { Within 16384 w }
+    ensures value { result ≡ mirrored n w }
+    ensures within { Within (2 ^ 60) result }
+{
+    let turned = short_dot(n, w);
+    let squared = short_dot(n, n);
+    Vec3 {
+        x: mirrored_part(turned, squared, n.x, w.x),
+        y: mirrored_part(turned, squared, n.y, w.y),
+        z: mirrored_part(turned, squared, n.z, w.z),
+    }
+}
+
+/// The view from a place to the eye, mirrored at a normal.
+fn mirrored_view(eye: Vec3, place: Vec3, normal: Vec3) -> Vec3
+    requires eye { Within 50_100_000 eye }
+    requires place { Within 50_100_000 place }
+    requires normal { Within 16384 normal }
+    ensures value { result ≡ mirrored_view eye place normal }
+    ensures within { Within 16384 result }
+{
+    let view = scaled(difference(eye, place), NORMAL_LENGTH);
+    scaled(mirrored(normal, view), NORMAL_LENGTH)
+}
+
+/// The spot of a hit at a depth on a surface.
+fn spot_on(ray: Ray, depth: u32, surface: &Surface) -> Spot
+    requires ray { IsRay ray }
+    requires depth { depth < 2 ^ 30 }
+    requires surface { IsSurface surface.now }
+    ensures value { result ≡ spot_on ray depth surface.now }
+    ensures valid { IsSpot result }
+    ensures matte { IsMatte result }
+{
+    let n = facing(ray.e, &surface.tri);
+    let x = off_surface(place_at(ray, depth), n);
+    Spot {
+        x,
+        n,
+        r: mirrored_view(ray.e, x, n),
+        kd: surface.reflectance.kd,
+        ks: Colour { r: 0, g: 0, b: 0 },
+        ns: surface.reflectance.ns,
+    }
+}
+
+/// The spot of a ray's hit on a scene: the place of the hit, 16 units off the surface on the side of the ray's beginning;
+/// the triangle's normal on that side; the view to the ray's beginning, mirrored at the normal; and how the surface sends
+/// light back, so far without its highlight.
+pub fn spot_of(scene: &Scene, ray: Ray, hit: Hit) -> Spot
+    requires ray { IsRay ray }
+    requires hit { IsHit (triangles_of scene.now) ray hit }
+    ensures value { spot_by scene.now ray hit ≡ Some result }
+    ensures valid { IsSpot result }
+    ensures matte { IsMatte result }
+{
+    spot_on(ray, hit.depth, &scene.surface(hit.number))
+}

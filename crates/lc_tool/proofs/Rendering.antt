@@ -1,0 +1,223 @@
+-- What a render leaves.
+use Rattle.std.proofs.Common.{◌≡◌, ℕ, ◌+◌, ◌*◌, ◌≤◌, ◌⊎◌, List, [], ◌∷◌, ◌++◌, length, map, refl, sym, ◌∙◌, ap, subst, inl, inr, All, Option, Some, None, IfSome, IfOk, Ok}
+use Rattle.std.proofs.Math.Seq.{take-length}
+use Rattle.std.proofs.lemmas.List.{map-append}
+use Rattle.std.proofs.lemmas.List.Elements.{All-nil, All-cons, All-map}
+use Rattle.lc_desk.specs.Calls.{Made, after_calls}
+use Rattle.lc_desk.specs.Desk.{DeskState, SlotState, Files, OnlyReads, appended, opened}
+use Rattle.lc_desk.specs.declared.desk.Slot.TheVariants.{Picture, Bounds, Report}
+use Rattle.lc_desk.specs.declared.desk.PutStop.TheVariants as put_stop
+use Rattle.lc_rated.specs.Cuts.{IsFraction, IsNear}
+use Rattle.lc_rated.specs.declared.answer.Answer.{Answer}
+use Rattle.lc_view.specs.Samples.{picture_rays}
+use Rattle.lc_view.specs.declared.ray.Ray.{Ray}
+use Rattle.lc_job.specs.declared.job.Job.{Job}
+use Rattle.lc_sample.specs.Sampled.{light_of, sample_of}
+use Rattle.lc_frame.specs.Files.{LeftPart, files as frame_files}
+use Rattle.lc_frame.specs.Frames.{answers_of, flat, picture_text, record_text, render_calls}
+use Rattle.lc_frame.specs.Stops.{StoppedIn}
+use Rattle.lc_frame.specs.declared.stop.FrameStop.{FrameStop}
+use Rattle.lc_frame.specs.declared.stop.FrameStop.TheVariants as frame
+use Rattle.lc_tool.specs.declared.status.Status.{Status}
+use Rattle.lc_tool.specs.declared.status.Status.TheVariants.{Done, Usage, Stopped, Unwritten}
+use Rattle.lc_tool.specs.declared.world.World.{World}
+use Rattle.lc_tool.specs.Course.{at_once, goes_on, told}
+use Rattle.lc_tool.specs.Words.{Command, probe, render, command_of}
+use Rattle.lc_tool.specs.Work.{Work}
+use Rattle.lc_tool.specs.Outcome.{course_of, outcome_told, render_course, render_work, world_of}
+use Rattle.lc_tool.specs.Status.{code}
+use Rattle.lc_tool.specs.Stopped.{Gave}
+use Rattle.lc_tool.specs.Ends.{Counts, Ends, Runs}
+use Rattle.lc_tool.specs.Rendered.{AreCounted, AreFractions, AreNear, HasPicture, HasRecord, IsRenderOf, LeavesParts, TellsWorld, recorded}
+use Rattle.lc_sample.proofs.SampleLemmas.{sample_evals, sample_fraction, sample_near}
+use Rattle.lc_frame.proofs.WrittenLemmas.{picture_left, picture_part, record_left, record_part}
+use Rattle.lc_tool.proofs.Running.{AreOff, by_done, is_done, off_made, off_stopped, some_as, some_here}
+use Rattle.lc_tool.proofs.Through.{went_through, if_ok, ok_same, told_files}
+use Rattle.lc_tool.proofs.Worlds.{IsWorld, world_is}
+
+-- ---- the samples of a world
+
+flat-map : {A B : Type 0} (f : A → B) (lists : List (List A)) → flat (map (map f) lists) ≡ map f (flat lists)
+flat-map f [] = refl
+flat-map f (list ∷ later) = ap (λ l. map f list ++ l) (flat-map f later) ∙ sym (map-append f list (flat later))
+
+abbrev rays_of : World → List Ray
+rays_of world = flat (flat (picture_rays world.job.camera))
+
+abbrev sample_in : World → Ray → Answer
+sample_in world ray = sample_of world.job.cut world.job.permille world.scene ray
+
+recorded_are : (world : World) → recorded world ≡ map (sample_in world) (rays_of world)
+unfolding answers_of
+recorded_are world =
+    ap flat (flat-map (map (sample_in world)) (picture_rays world.job.camera)) ∙ flat-map (sample_in world) (flat (picture_rays world.job.camera))
+
+each_of : {X : Type 0} (P : X → Type 0) → ((x : X) → P x) → (xs : List X) → All P xs
+each_of P f [] = All-nil P
+each_of P f (x ∷ xs) = All-cons P x xs (f x) (each_of P f xs)
+
+each_recorded : (P : Answer → Type 0) (world : World) → ((ray : Ray) → P (sample_in world ray)) → All P (recorded world)
+each_recorded P world f =
+    subst (All P) (sym (recorded_are world)) (All-map P (sample_in world) (rays_of world) (each_of (λ ray. P (sample_in world ray)) f (rays_of world)))
+
+-- ---- the outcome where the words are a render and the files tell its world
+
+pub leaves_course : (words : List (List ℕ)) (held : Option Files) (world : World) (r : IsRenderOf words held world) → outcome_told words held ≡ Some (render_course r.name r.files)
+leaves_course words held world r = ap (λ o. told (course_of o) held) r.command ∙ ap (told (render_course r.name)) r.told
+
+world_end : (name : List ℕ) (files : Files) (world : World) → (world_of name files).end ≡ Ok world → (render_course name files).end ≡ Ok (render_work world)
+world_end name files world e = ap (λ end. (goes_on (world_of name files).reads end (λ w. at_once (Ok (render_work w)))).end) e
+
+-- what is said of the outcome is said of the course to this work
+pub leaves_work : (words : List (List ℕ)) (held : Option Files) (world : World) (P : Work → Type 0) → IsRenderOf words held world → IfSome (outcome_told words held) (λ c. IfOk c.end P) → P (render_work world)
+leaves_work words held world P r h =
+    if_ok (render_course r.name r.files).end (render_work world) P (world_end r.name r.files world r.tells)
+    (some_here (outcome_told words held) (λ c. IfOk c.end P) (render_course r.name r.files) (leaves_course words held world r) h)
+
+same_work : (words : List (List ℕ)) (before start : DeskState) (work : Work) (world : World) → IsRenderOf words before.held world → IfSome (outcome_told words before.held) (Gave work before start) → work ≡ render_work world
+same_work words before start work world r h =
+    let gave = some_here (outcome_told words before.held) (Gave work before start) (render_course r.name r.files) (leaves_course words before.held world r) h in
+    ok_same work (render_work world) (sym gave.end ∙ world_end r.name r.files world r.tells)
+
+is_render : (words : List (List ℕ)) (status : Status) (before now : DeskState) (world : World) → IsRenderOf words before.held world → Runs (command_of words) status (outcome_told words before.held) before now → Ends status frame_files (outcome_told words before.held) before now
+is_render words status before now world r h = subst (λ o. Runs o status (outcome_told words before.held) before now) r.command h
+
+-- ---- where all is done
+
+-- reads, and then all calls of the render
+record Rendered (world : World) (before now : DeskState) : Type 0 where
+  pub start : DeskState
+  pub reads : OnlyReads before start
+  pub made : Made (render_calls world.job (answers_of world.job world.scene)) start now
+
+work_made : (world : World) (work : Work) (start now : DeskState) → work ≡ render_work world → Made work.calls start now → Made (render_calls world.job (answers_of world.job world.scene)) start now
+unfolding render_work
+work_made world work start now same made = subst (λ (w : Work). Made w.calls start now) same made
+
+run_rendered : (words : List (List ℕ)) (status : Status) (before now : DeskState) (world : World) → IsRenderOf words before.held world → Runs (command_of words) status (outcome_told words before.held) before now → code status ≡ 0 → Rendered world before now
+run_rendered words status before now world r h zero =
+    let f = by_done (command_of words) status (outcome_told words before.held) before now h zero in
+    record {
+      start = f.start;
+      reads = f.began.reads;
+      made = work_made world f.work f.start now (same_work words before f.start f.work world r f.began.told) f.made;
+    }
+
+rendered_picture : (world : World) (before now : DeskState) → Rendered world before now → HasPicture world before now
+rendered_picture world before now d =
+    ap (λ s. s.picture) (d.made.slots ∙ ap (after_calls (render_calls world.job (answers_of world.job world.scene))) d.reads.slots)
+    ∙ picture_left world.job (answers_of world.job world.scene) before.slots
+
+rendered_record : (world : World) (before now : DeskState) → Rendered world before now → HasRecord world before now
+rendered_record world before now d =
+    ap (λ s. s.bounds) (d.made.slots ∙ ap (after_calls (render_calls world.job (answers_of world.job world.scene))) d.reads.slots)
+    ∙ record_left world.job (answers_of world.job world.scene) before.slots
+
+pub run_picture : (words : List (List ℕ)) (status : Status) (before now : DeskState) (world : World) → IsRenderOf words before.held world → Runs (command_of words) status (outcome_told words before.held) before now → code status ≡ 0 → HasPicture world before now
+run_picture words status before now world r h zero = rendered_picture world before now (run_rendered words status before now world r h zero)
+
+pub run_record : (words : List (List ℕ)) (status : Status) (before now : DeskState) (world : World) → IsRenderOf words before.held world → Runs (command_of words) status (outcome_told words before.held) before now → code status ≡ 0 → HasRecord world before now
+run_record words status before now world r h zero = rendered_record world before now (run_rendered words status before now world r h zero)
+
+-- ---- the samples of a valid world
+
+render_is : (words : List (List ℕ)) (held : Option Files) (world : World) → IsRenderOf words held world → IsWorld world
+render_is words held world r = world_is r.name r.files world r.tells
+
+pub render_near : (words : List (List ℕ)) (held : Option Files) (world : World) → IsRenderOf words held world → AreNear world
+render_near words held world r =
+    let valid = render_is words held world r in
+    each_of (λ ray. IsNear (light_of world.scene ray) (sample_in world ray)) (λ ray. sample_near world.job.cut world.job.permille world.scene ray valid.scene) (rays_of world)
+
+pub render_fractions : (words : List (List ℕ)) (held : Option Files) (world : World) → IsRenderOf words held world → AreFractions world
+render_fractions words held world r =
+    let valid = render_is words held world r in
+    each_recorded (λ a. (a.size ≡ world.job.cut) ⊎ IsFraction world.job.permille a) world (λ ray. sample_fraction world.job.cut world.job.permille world.scene ray valid.job.cut_some)
+
+work_counted : (world : World) (steps_before steps_now : ℕ) → steps_now ≡ steps_before + (render_work world).evals → All (λ a. a.evals ≤ 2 * world.job.cut) (recorded world) → AreCounted world steps_before steps_now
+unfolding render_work
+work_counted world steps_before steps_now all each = record { each = each; all = all }
+
+pub run_counted : (words : List (List ℕ)) (status : Status) (held : Option Files) (world : World) (steps_before steps_now : ℕ) → IsRenderOf words held world → Counts status (outcome_told words held) steps_before steps_now → code status ≡ 0 → AreCounted world steps_before steps_now
+run_counted words status held world steps_before steps_now r counts zero =
+    let valid = render_is words held world r in
+    work_counted world steps_before steps_now
+    (leaves_work words held world (λ w. steps_now ≡ steps_before + w.evals) r (counts (is_done status zero)))
+    (each_recorded (λ a. a.evals ≤ 2 * world.job.cut) world (λ ray. sample_evals world.job.cut world.job.permille world.scene ray valid.job.cut_some))
+
+-- ---- the files tell a world
+
+tells : (command : Option Command) (files : Files) (work : Work) → (course_of command files).end ≡ Ok work → TellsWorld command files
+tells None files work e = tt
+tells (Some (probe name place direction)) files work e = tt
+tells (Some (render name)) files work e =
+    let w = went_through (world_of name files) (λ world. at_once (Ok (render_work world))) work e in
+    (w.value, w.stepped)
+
+pub run_world : (command : Option Command) (status : Status) (before now : DeskState) → Runs command status (told (course_of command) before.held) before now → code status ≡ 0 → IfSome before.held (TellsWorld command)
+run_world command status before now h zero =
+    let f = by_done command status (told (course_of command) before.held) before now h zero in
+    some_as before.held (λ files. Gave f.work before f.start (course_of command files)) (TellsWorld command) (λ files gave. tells command files f.work gave.end)
+    (told_files (course_of command) before.held (Gave f.work before f.start) f.began.told)
+
+-- ---- whatever the status
+
+off_report : AreOff Report frame_files
+off_report =
+    All-cons (λ s. s ≡ Report → ⊥) Picture (Bounds ∷ []) (λ e. cc)
+    (All-cons (λ s. s ≡ Report → ⊥) Bounds [] (λ e. cc) (All-nil (λ s. s ≡ Report → ⊥)))
+
+-- the whole is a first part
+whole_part : (name bytes : List ℕ) (before now : SlotState) → now ≡ appended bytes (opened name before) → LeftPart name bytes before now
+whole_part name bytes before now e = inr (record { count = length bytes; held = e ∙ ap (λ b. appended b (opened name before)) (sym (take-length bytes)) })
+
+picture_stopped : (stop : FrameStop) (job : Job) (rows : List (List (List Answer))) (x y : DeskState) → StoppedIn stop (render_calls job rows) x y → LeftPart job.picture (picture_text job rows) x.slots.picture y.slots.picture
+picture_stopped (frame.Write slot) job rows x y h = picture_part job rows put_stop.Failed x y h.0
+picture_stopped frame.Memory job rows x y (inl same) = inl (ap (λ d. d.slots.picture) same)
+picture_stopped frame.Memory job rows x y (inr broke) = picture_part job rows put_stop.Memory x y broke
+
+record_stopped : (stop : FrameStop) (job : Job) (rows : List (List (List Answer))) (x y : DeskState) → StoppedIn stop (render_calls job rows) x y → LeftPart job.bounds (record_text job rows) x.slots.bounds y.slots.bounds
+record_stopped (frame.Write slot) job rows x y h = record_part job rows put_stop.Failed x y h.0
+record_stopped frame.Memory job rows x y (inl same) = inl (ap (λ d. d.slots.bounds) same)
+record_stopped frame.Memory job rows x y (inr broke) = record_part job rows put_stop.Memory x y broke
+
+work_stopped : (stop : FrameStop) (world : World) (work : Work) (x y : DeskState) → work ≡ render_work world → StoppedIn stop work.calls x y → StoppedIn stop (render_calls world.job (answers_of world.job world.scene)) x y
+unfolding render_work
+work_stopped stop world work x y same h = subst (λ (w : Work). StoppedIn stop w.calls x y) same h
+
+-- a part that was left between two slots is left between what these are
+part_between : (name bytes : List ℕ) (before x y now : SlotState) → x ≡ before → now ≡ y → LeftPart name bytes x y → LeftPart name bytes before now
+part_between name bytes before x y now e f h = subst (λ s. LeftPart name bytes s now) e (subst (λ s. LeftPart name bytes x s) (sym f) h)
+
+ends_parts : (words : List (List ℕ)) (status : Status) (before now : DeskState) (world : World) → IsRenderOf words before.held world → Ends status frame_files (outcome_told words before.held) before now → LeavesParts world before now
+ends_parts words Done before now world r h =
+    let d : Rendered world before now = record {
+      start = h.start;
+      reads = h.began.reads;
+      made = work_made world h.work h.start now (same_work words before h.start h.work world r h.began.told) h.made;
+    } in
+    record {
+      picture = whole_part world.job.picture (picture_text world.job (answers_of world.job world.scene)) before.slots.picture now.slots.picture (rendered_picture world before now d);
+      bounds = whole_part world.job.bounds (record_text world.job (answers_of world.job world.scene)) before.slots.bounds now.slots.bounds (rendered_record world before now d);
+      report = off_made Report frame_files h.work.calls h.start now off_report h.began.on h.made ∙ ap (λ s. s.report) h.began.reads.slots;
+    }
+ends_parts words Usage before now world r h = absurd h
+ends_parts words (Stopped stop) before now world r h = record {
+  picture = inl (ap (λ s. s.picture) h.noted.slots);
+  bounds = inl (ap (λ s. s.bounds) h.noted.slots);
+  report = ap (λ s. s.report) h.noted.slots;
+}
+ends_parts words (Unwritten stop) before now world r h =
+    let rows : List (List (List Answer)) = answers_of world.job world.scene in
+    let broke : StoppedIn stop (render_calls world.job rows) h.start h.mid = work_stopped stop world h.work h.start h.mid (same_work words before h.start h.work world r h.began.told) h.broke in
+    record {
+      picture = part_between world.job.picture (picture_text world.job rows) before.slots.picture h.start.slots.picture h.mid.slots.picture now.slots.picture
+          (ap (λ s. s.picture) h.began.reads.slots) (ap (λ s. s.picture) h.noted.slots) (picture_stopped stop world.job rows h.start h.mid broke);
+      bounds = part_between world.job.bounds (record_text world.job rows) before.slots.bounds h.start.slots.bounds h.mid.slots.bounds now.slots.bounds
+          (ap (λ s. s.bounds) h.began.reads.slots) (ap (λ s. s.bounds) h.noted.slots) (record_stopped stop world.job rows h.start h.mid broke);
+      report = ap (λ s. s.report) h.noted.slots ∙ off_stopped stop Report frame_files h.work.calls h.start h.mid off_report h.began.on h.broke
+          ∙ ap (λ s. s.report) h.began.reads.slots;
+    }
+
+pub run_parts : (words : List (List ℕ)) (status : Status) (before now : DeskState) (world : World) → IsRenderOf words before.held world → Runs (command_of words) status (outcome_told words before.held) before now → LeavesParts world before now
+run_parts words status before now world r h = ends_parts words status before now world r (is_render words status before now world r h)

@@ -1,0 +1,61 @@
+-- What `render` has left where it is done, and what it may have left where it is not.
+use Rattle.std.specs.Prelude.{◌≡◌, ◌+◌, ◌*◌, ◌≤◌, ◌⊎◌, ℕ, List, All, Option, Some, None, IfSome, Ok}
+use Rattle.lc_desk.specs.Desk.{DeskState, Files, appended, opened}
+use Rattle.lc_rated.specs.declared.answer.Answer.{Answer}
+use Rattle.lc_rated.specs.Cuts.{IsNear, IsFraction}
+use Rattle.lc_view.specs.Samples.{picture_rays}
+use Rattle.lc_sample.specs.Sampled.{light_of, sample_of}
+use Rattle.lc_frame.specs.Files.{LeftPart}
+use Rattle.lc_frame.specs.Frames.{answers_of, evals_of, flat, picture_text, record_text, samples}
+use Rattle.lc_tool.specs.declared.world.World.{World}
+use Rattle.lc_tool.specs.Outcome.{world_of}
+use Rattle.lc_tool.specs.Words.{Command, probe, render, command_of}
+
+-- the words are `render`, and by the files that the desk tells this is the world of its job
+pub record IsRenderOf (words : List (List ℕ)) (held : Option Files) (world : World) : Type 0 where
+  pub name : List ℕ
+  pub command : command_of words ≡ Some (render name)
+  pub files : Files
+  pub told : held ≡ Some files
+  pub tells : (world_of name files).end ≡ Ok world
+
+-- where the words are `render` and the desk tells its files, these tell the world of the job
+abbrev pub TellsWorld : Option Command → Files → Type 0
+TellsWorld None files = Unit {0}
+TellsWorld (Some (probe name place direction)) files = Unit {0}
+TellsWorld (Some (render name)) files = (world : World) × ((world_of name files).end ≡ Ok world)
+
+abbrev pub HasWorld : List (List ℕ) → Option Files → Type 0
+HasWorld words held = IfSome held (TellsWorld (command_of words))
+
+-- the answers that are recorded: one for each sample of the picture
+abbrev pub recorded : World → List Answer
+recorded world = samples (answers_of world.job world.scene)
+
+-- at each sample the recorded estimate differs from the sum over all lights, each with its own visibility against every
+-- triangle, by at most the recorded bound
+abbrev pub AreNear : World → Type 0
+AreNear world = All (λ ray. IsNear (light_of world.scene ray) (sample_of world.job.cut world.job.permille world.scene ray)) (flat (flat (picture_rays world.job.camera)))
+
+-- at each sample the recorded bound is within the permille of the estimate, unless the cut has the greatest size
+abbrev pub AreFractions : World → Type 0
+AreFractions world = All (λ a. (a.size ≡ world.job.cut) ⊎ IsFraction world.job.permille a) (recorded world)
+
+-- each sample took at most twice the greatest size of evaluations, and the counter rose by the sum of all of them
+pub record AreCounted (world : World) (steps_before steps_now : ℕ) : Type 0 where
+  pub each : All (λ a. a.evals ≤ 2 * world.job.cut) (recorded world)
+  pub all : steps_now ≡ steps_before + evals_of (recorded world)
+
+-- the record's file has exactly the record of the answers, under the job's name
+abbrev pub HasRecord : World → DeskState → DeskState → Type 0
+HasRecord world before now = now.slots.bounds ≡ appended (record_text world.job (answers_of world.job world.scene)) (opened world.job.bounds before.slots.bounds)
+
+-- the picture's file has exactly the picture of the answers' estimates, under the job's name
+abbrev pub HasPicture : World → DeskState → DeskState → Type 0
+HasPicture world before now = now.slots.picture ≡ appended (picture_text world.job (answers_of world.job world.scene)) (opened world.job.picture before.slots.picture)
+
+-- each file is as it was, or was begun under the job's name and has a first part of those bytes; Report is as it was
+pub record LeavesParts (world : World) (before now : DeskState) : Type 0 where
+  pub picture : LeftPart world.job.picture (picture_text world.job (answers_of world.job world.scene)) before.slots.picture now.slots.picture
+  pub bounds : LeftPart world.job.bounds (record_text world.job (answers_of world.job world.scene)) before.slots.bounds now.slots.bounds
+  pub report : now.slots.report ≡ before.slots.report

@@ -1,0 +1,273 @@
+// Renders over a desk in memory.
+ghost use Rattle.std.specs.Prelude.{◌≡◌, ◌<◌};
+
+use crate::run;
+use lc_desk::{MemoryDesk, Slot};
+use lc_num::{Memory, Steps};
+use std::alloc::{AllocGlobal, Global};
+use std::marker::Brand;
+use std::process::Abort;
+use std::sync::ledger::{Blank, Ledger};
+use std::test::Fail;
+
+const SCENE: &str = "v -1 -1 0\nv 1 -1 0\nv 0 1 0\nf 1 2 3\n";
+
+const NAMES: &str = "scene s.obj\nlights l.txt\npicture p.ppm\nbounds b.lcb\n";
+
+const VIEW: &str = "eye 0 0 5\nat 0 0 0\nsize 1 1\n";
+
+const LIGHT: &str = "point 0 0 1.0016 1 1 1\n";
+
+const PICTURE: &[u8] = b"P6\n1 1\n255\n\xE4\xE4\xE4";
+
+const RECORD: &[u8] =
+    b"LCB 1 1 1 1 1000 20\n1 1 5242880000000000000000 5242880000000000000000 5242880000000000000000 0 0 0\n";
+
+fn count<L: Ledger>(alloc: Global, words: &[&str], desk: &mut MemoryDesk, blank: Blank) -> u8
+    requires name { blank.name ≡ L.name }
+    requires parts { blank.parts ≡ L.parts }
+    requires some { 0 < blank.parts }
+{
+    run(alloc, words, desk, &mut Steps::<L>::start(blank))
+}
+
+fn serve(alloc: Global, words: &[&str], desk: &mut MemoryDesk) -> u8 {
+    count::<Brand>(alloc, words, desk, Blank::new(1))
+}
+
+/// A desk with a job of these names and this view, and with a scene and lights.
+fn desk_with(
+    alloc: Global,
+    names: &str,
+    view: &str,
+    scene: &str,
+    lights: &str,
+) -> Result<MemoryDesk, Memory> {
+    let job = format!(in alloc; "{names}{view}")?;
+    let mut desk = MemoryDesk::new(alloc);
+    desk.add("j.txt", job.as_bytes())?;
+    desk.add("s.obj", scene.as_bytes())?;
+    desk.add("l.txt", lights.as_bytes())?;
+    Ok(desk)
+}
+
+/// Serves a desk whose job is done.
+fn expect_files(
+    rt: &(impl Abort + AllocGlobal),
+    desk: &mut MemoryDesk,
+    picture: &[u8],
+    record: &[u8],
+) {
+    assert_eq!(rt; serve(rt.alloc(), &["render", "j.txt"], desk), 0);
+    assert_eq!(rt; desk.told(Slot::Picture), picture);
+    assert_eq!(rt; desk.told(Slot::Bounds), record);
+    assert_eq!(rt; desk.told(Slot::Report), b"".as_slice());
+    assert_eq!(rt; desk.told(Slot::Note), b"".as_slice());
+}
+
+/// Serves a desk whose job is refused before anything is written.
+fn expect_note(
+    rt: &(impl Abort + AllocGlobal),
+    words: &[&str],
+    desk: &mut MemoryDesk,
+    status: u8,
+    note: &str,
+) {
+    assert_eq!(rt; serve(rt.alloc(), words, desk), status, "{note}");
+    assert_eq!(rt; desk.told(Slot::Picture), b"".as_slice(), "{note}");
+    assert_eq!(rt; desk.told(Slot::Bounds), b"".as_slice(), "{note}");
+    assert_eq!(rt; desk.told(Slot::Report), b"".as_slice(), "{note}");
+    assert_eq!(rt; desk.told(Slot::Note), note.as_bytes());
+}
+
+/// Serves a desk with this job, which is refused.
+fn refuse_job(
+    rt: &(impl Abort + AllocGlobal),
+    names: &str,
+    view: &str,
+    note: &str,
+) -> Result<(), Memory> {
+    let mut desk = desk_with(rt.alloc(), names, view, SCENE, LIGHT)?;
+    expect_note(rt, &["render", "j.txt"], &mut desk, 3, note);
+    Ok(())
+}
+
+#[test]
+fn renders_a_triangle(rt: HostRuntime) -> Result<(), Fail> {
+    let mut desk = desk_with(rt.alloc(), NAMES, VIEW, SCENE, LIGHT)?;
+    expect_files(&rt, &mut desk, PICTURE, RECORD);
+    Ok(())
+}
+
+// Two lights at one place, with a bound as great as the estimate.
+#[test]
+fn renders_the_bound_of_a_coarse_cut(rt: HostRuntime) -> Result<(), Fail> {
+    let view = format!(in rt.alloc(); "{VIEW}error 1000\n")?;
+    let lights = format!(in rt.alloc(); "{LIGHT}{LIGHT}")?;
+    let mut desk = desk_with(rt.alloc(), NAMES, &view, SCENE, &lights)?;
+    expect_files(
+        &rt,
+        &mut desk,
+        b"P6\n1 1\n255\n\xFF\xFF\xFF",
+        b"LCB 1 1 1 1 1000 1000\n1 1 10485760000000000000000 10485760000000000000000 10485760000000000000000 10485760000000000000000 10485760000000000000000 10485760000000000000000\n",
+    );
+    Ok(())
+}
+
+/// Three numbers above 0.
+fn expect_bounds(rt: &impl Abort, bounds: &[u8]) {
+    assert_eq!(rt; bounds.split(|b| *b == b' ').count(), 3);
+    for bound in bounds.split(|b| *b == b' ') {
+        assert!(rt; !bound.starts_with(b"0"));
+    }
+}
+
+// A triangle before all of a light that shines down leaves an estimate of zero, and a bound above it at the greatest cut.
+#[test]
+fn renders_a_dark_scene(rt: HostRuntime) -> Result<(), Fail> {
+    let scene = format!(in rt.alloc(); "{SCENE}v -10 -10 2\nv 10 -10 2\nv 0 10 2\nf 4 5 6\n")?;
+    let view = "eye 0 0 1\nat 0 0 0\nsize 1 1\ncut 3\n";
+    let lights = "area -1 -1 3 0 2 0 2 0 0 1 1 1 4096\n";
+    let mut desk = desk_with(rt.alloc(), NAMES, view, &scene, lights)?;
+    assert_eq!(rt; serve(rt.alloc(), &["render", "j.txt"], &mut desk), 0);
+    assert_eq!(rt;
+        desk.told(Slot::Picture),
+        b"P6\n1 1\n255\n\0\0\0".as_slice()
+    );
+    let record = desk.told(Slot::Bounds);
+    let Some(bounds) = record.strip_prefix(b"LCB 1 1 1 1 3 20\n3 5 0 0 0 ") else {
+        panic!(&rt; "a record");
+    };
+    expect_bounds(&rt, bounds);
+    Ok(())
+}
+
+// A row of pixels that is refused leaves the first bytes that were taken. The record has all lines before it.
+#[test]
+fn stops_in_a_row_of_pixels(rt: HostRuntime) -> Result<(), Fail> {
+    let view = "eye 0 0 5\nat 0 0 0\nsize 1 3\n";
+    let mut desk = desk_with(rt.alloc(), NAMES, view, SCENE, LIGHT)?;
+    desk.fail(13, 2)?;
+    assert_eq!(rt; serve(rt.alloc(), &["render", "j.txt"], &mut desk), 9);
+    assert_eq!(rt;
+        desk.told(Slot::Picture),
+        b"P6\n1 3\n255\n\0\0\0\xE4\xE4\xE4\0\0".as_slice()
+    );
+    assert_eq!(rt;
+        desk.told(Slot::Bounds),
+        b"LCB 1 1 3 1 1000 20\n0 0 0 0 0 0 0 0\n1 1 5242880000000000000000 5242880000000000000000 5242880000000000000000 0 0 0\n0 0 0 0 0 0 0 0\n".as_slice()
+    );
+    assert_eq!(rt; desk.told(Slot::Report), b"".as_slice());
+    assert_eq!(rt; desk.told(Slot::Note), b"picture: write fault\n".as_slice());
+    Ok(())
+}
+
+#[test]
+fn refuses_jobs(rt: HostRuntime) -> Result<(), Fail> {
+    let twins = "scene s.obj\nlights l.txt\npicture p.ppm\nbounds p.ppm\n";
+    refuse_job(&rt, twins, VIEW, "j.txt: line 0: kind 7\n")?;
+    let rows = [
+        ("eye 0 0 5\nat 0 0 5\nsize 1 1\n", "line 0: kind 6"),
+        ("eye 0 0 5\nat 0 0 0\n", "line 0: kind 5: size"),
+    ];
+    for (view, fault) in rows {
+        let note = format!(in rt.alloc(); "j.txt: {fault}\n")?;
+        refuse_job(&rt, NAMES, view, &note)?;
+    }
+    Ok(())
+}
+
+// Each of these is the eighth line of a job.
+#[test]
+fn refuses_lines_of_jobs(rt: HostRuntime) -> Result<(), Fail> {
+    let rows = [
+        ("zoom 3", "line 8: kind 1"),
+        ("eye 0 0 5", "line 8: kind 2"),
+        ("cut x", "line 8: kind 3"),
+        ("cut 2", "line 8: kind 4"),
+        ("up 0 0 1", "line 0: kind 6"),
+    ];
+    for (line, fault) in rows {
+        let view = format!(in rt.alloc(); "{VIEW}{line}\n")?;
+        let note = format!(in rt.alloc(); "j.txt: {fault}\n")?;
+        refuse_job(&rt, NAMES, &view, &note)?;
+    }
+    Ok(())
+}
+
+#[test]
+fn refuses_what_a_job_names(rt: HostRuntime) -> Result<(), Fail> {
+    let words = ["render", "j.txt"];
+    let mut desk = desk_with(rt.alloc(), NAMES, VIEW, "v 0 0\n", LIGHT)?;
+    expect_note(&rt, &words, &mut desk, 4, "s.obj: line 1: kind 2\n");
+    let mut desk = desk_with(rt.alloc(), NAMES, VIEW, SCENE, "point 0 0 1 1 1\n")?;
+    expect_note(&rt, &words, &mut desk, 6, "l.txt: line 1: kind 3\n");
+    Ok(())
+}
+
+/// A desk whose scene names the library `x.mtl`.
+fn desk_with_library(alloc: Global) -> Result<MemoryDesk, Memory> {
+    let scene = format!(in alloc; "mtllib x.mtl\n{SCENE}")?;
+    desk_with(alloc, NAMES, VIEW, &scene, LIGHT)
+}
+
+#[test]
+fn reads_libraries(rt: HostRuntime) -> Result<(), Fail> {
+    let words = ["render", "j.txt"];
+    let mut desk = desk_with_library(rt.alloc())?;
+    expect_note(&rt, &words, &mut desk, 7, "x.mtl: absent\n");
+    let mut desk = desk_with_library(rt.alloc())?;
+    desk.add("x.mtl", b"newmtl a\nKd spectral f.rfl\n")?;
+    expect_note(&rt, &words, &mut desk, 5, "x.mtl: line 2: kind 4\n");
+    let mut desk = desk_with_library(rt.alloc())?;
+    desk.add("x.mtl", b"newmtl a\n")?;
+    expect_files(&rt, &mut desk, PICTURE, RECORD);
+    Ok(())
+}
+
+/// A desk whose scene stands in a folder and names this library.
+fn desk_with_folder(alloc: Global, library: &str) -> Result<MemoryDesk, Memory> {
+    let names = "scene d/s.obj\nlights l.txt\npicture p.ppm\nbounds b.lcb\n";
+    let scene = format!(in alloc; "mtllib {library}\n{SCENE}")?;
+    let mut desk = desk_with(alloc, names, VIEW, SCENE, LIGHT)?;
+    desk.add("d/s.obj", scene.as_bytes())?;
+    Ok(desk)
+}
+
+// A library is looked for beside its scene, but one that begins with `/` stands alone.
+#[test]
+fn reads_libraries_of_folders(rt: HostRuntime) -> Result<(), Fail> {
+    for (library, file) in [("x.mtl", "d/x.mtl"), ("/x.mtl", "/x.mtl")] {
+        let note = format!(in rt.alloc(); "{file}: absent\n")?;
+        let mut desk = desk_with_folder(rt.alloc(), library)?;
+        expect_note(&rt, &["render", "j.txt"], &mut desk, 7, &note);
+        let mut desk = desk_with_folder(rt.alloc(), library)?;
+        desk.add(file, b"newmtl a\n")?;
+        expect_files(&rt, &mut desk, PICTURE, RECORD);
+    }
+    Ok(())
+}
+
+#[test]
+fn tells_that_a_job_was_not_read(rt: HostRuntime) -> Result<(), Fail> {
+    let words = ["render", "j.txt"];
+    let mut desk = MemoryDesk::new(rt.alloc());
+    expect_note(&rt, &words, &mut desk, 7, "j.txt: absent\n");
+    let mut desk = desk_with(rt.alloc(), NAMES, VIEW, SCENE, LIGHT)?;
+    desk.fail(1, 0)?;
+    expect_note(&rt, &words, &mut desk, 8, "j.txt: read fault\n");
+    Ok(())
+}
+
+#[test]
+fn renders_one_job(rt: HostRuntime) -> Result<(), Fail> {
+    let mut desk = desk_with(rt.alloc(), NAMES, VIEW, SCENE, LIGHT)?;
+    expect_note(
+        &rt,
+        &["render"],
+        &mut desk,
+        2,
+        "usage: lightcuts probe LIGHTS X Y Z NX NY NZ | render JOB | plain JOB | audit JOB STEP | make N\n",
+    );
+    Ok(())
+}

@@ -43,7 +43,7 @@ case_of 'no words' 2 '' "$usage" "$program"
 case_of 'a word too few' 2 '' "$usage" "$program" probe l.txt 0 0 0 0 0
 case_of 'a number out of range' 2 '' "$usage" "$program" probe l.txt 0 0 5000.0001 0 0 1
 case_of 'a word that is no text' 2 '' "$usage" "$program" probe $'\xff' 0 0 0 0 0 1
-case_of 'a command that is not built yet' 2 '' "$usage" "$program" render j.txt
+case_of 'a command that is not built yet' 2 '' "$usage" "$program" plain j.txt
 case_of 'a faulty number' 6 '' 'faulty.txt: line 1: kind 2' probe faulty.txt
 case_of 'a missing file' 7 '' 'none.txt: absent' probe none.txt
 case_of 'a name without letters' 7 '' ': absent' probe ''
@@ -64,6 +64,34 @@ if [ "$(id -u)" -eq 0 ]; then
 else
     case_of 'a file without leave to read' 8 '' 'locked.txt: read fault' probe locked.txt
 fi
+
+# a picture of one pixel: a triangle under one light
+mkdir scene
+printf 'mtllib m.mtl\nv -1 -1 0\nv 1 -1 0\nv 0 1 0\nusemtl a\nf 1 2 3\n' >scene/s.obj
+printf 'newmtl a\nKd 0.5\n' >scene/m.mtl
+echo 'point 0 0 1 1 1 1' >lights.txt
+job() { printf 'scene scene/s.obj\nlights lights.txt\npicture %s\nbounds %s\neye 0 0 5\nat 0 0 0\nsize 1 1\n' "$1" "$2"; }
+job p.ppm b.lcb >j.txt
+render() { "$program" render "$1"; }
+case_of 'a picture' 0 '' '' render j.txt
+case_of 'the header of the picture' 0 "$(printf 'P6\n1 1\n255\n')" '' head -c 11 p.ppm
+case_of 'the record' 0 'LCB 1 1 1 1 1000 20' '' head -n 1 b.lcb
+case_of 'a missing job' 7 '' 'none.txt: absent' render none.txt
+echo 'eye 0 0' >bad.txt
+case_of 'a faulty job' 3 '' 'bad.txt: line 1: kind 3' render bad.txt
+echo 'scene scene/s.obj' >short.txt
+case_of 'a job that lacks a keyword' 3 '' 'short.txt: line 0: kind 5: lights' render short.txt
+job none/p.ppm b.lcb >nofolder.txt
+case_of 'a picture in no folder' 9 '' 'picture: write fault' render nofolder.txt
+job p.ppm /dev/full >full.txt
+case_of 'a record on a full disk' 9 '' 'bounds: write fault' render full.txt
+printf 'f 1 2 3\n' >scene/bad.obj
+sed 's/s.obj/bad.obj/' j.txt >badscene.txt
+case_of 'a faulty scene' 4 '' 'scene/bad.obj: line 1: kind 4' render badscene.txt
+mv scene/m.mtl scene/kept.mtl
+case_of 'a library that is not beside the scene' 7 '' 'scene/m.mtl: absent' render j.txt
+echo 'Kd 1' >scene/m.mtl
+case_of 'a faulty library' 5 '' 'scene/m.mtl: line 1: kind 3' render j.txt
 
 echo "$good as wanted, $bad not"
 [ $bad -eq 0 ]

@@ -85,6 +85,12 @@ job none/p.ppm b.lcb >nofolder.txt
 case_of 'a picture in no folder' 9 '' 'picture: write fault' render nofolder.txt
 job p.ppm /dev/full >full.txt
 case_of 'a record on a full disk' 9 '' 'bounds: write fault' render full.txt
+job /dev/stdout b.lcb >pipe.txt
+piped() {
+    (sleep 0.3; "$program" render pipe.txt; echo $? >status) | true
+    return "$(cat status)"
+}
+case_of 'a picture into a closed pipe' 9 '' 'picture: write fault' piped
 printf 'f 1 2 3\n' >scene/bad.obj
 sed 's/s.obj/bad.obj/' j.txt >badscene.txt
 case_of 'a faulty scene' 4 '' 'scene/bad.obj: line 1: kind 4' render badscene.txt

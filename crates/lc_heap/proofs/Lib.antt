@@ -1,0 +1,5 @@
+pub mod Digits
+pub mod OrderLaws
+pub mod Sifting
+pub mod Opening
+pub mod Taking

@@ -1,0 +1,14 @@
+//! A heap of a fixed room, whose entries come in a total order. Its comparisons are counted.
+#![tactic(auto)]
+
+mod entry;
+mod heap;
+mod laws;
+mod sift;
+
+pub use entry::Entry;
+pub use heap::Heap;
+pub use laws::{binary_digits, entries_in_order};
+
+#[cfg(test)]
+mod tests;

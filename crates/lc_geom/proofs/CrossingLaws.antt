@@ -8,45 +8,45 @@ use Rattle.lc_geom.specs.Crossing.{side, volume}
 
 -- ---- vectors of expressions
 
-record Symbols : Type 0 where
-  x : Expression
-  y : Expression
-  z : Expression
+pub record Symbols : Type 0 where
+  pub x : Expression
+  pub y : Expression
+  pub z : Expression
 
-abbrev vector : Expression → Expression → Expression → Symbols
+abbrev pub vector : Expression → Expression → Expression → Symbols
 vector x y z = record { x = x; y = y; z = z }
 
-abbrev minus : Symbols → Symbols → Symbols
+abbrev pub minus : Symbols → Symbols → Symbols
 minus a b = vector (sub a.x b.x) (sub a.y b.y) (sub a.z b.z)
 
-abbrev dotted : Symbols → Symbols → Expression
+abbrev pub dotted : Symbols → Symbols → Expression
 dotted a b = add (add (mul a.x b.x) (mul a.y b.y)) (mul a.z b.z)
 
-abbrev crossed : Symbols → Symbols → Symbols
+abbrev pub crossed : Symbols → Symbols → Symbols
 crossed a b = vector (sub (mul a.y b.z) (mul a.z b.y)) (sub (mul a.z b.x) (mul a.x b.z)) (sub (mul a.x b.y) (mul a.y b.x))
 
-abbrev side_of : Symbols → Symbols → Symbols → Symbols → Expression
+abbrev pub side_of : Symbols → Symbols → Symbols → Symbols → Expression
 side_of a b c p = dotted (crossed (minus b a) (minus c a)) (minus p a)
 
-abbrev volume_of : Symbols → Symbols → Symbols → Symbols → Expression
+abbrev pub volume_of : Symbols → Symbols → Symbols → Symbols → Expression
 volume_of p q u v = dotted (minus q p) (crossed (minus u p) (minus v p))
 
 abbrev twelve : Vec3 → Vec3 → Vec3 → Vec3 → List ℤ
 twelve a b p q = a.x ∷ a.y ∷ a.z ∷ b.x ∷ b.y ∷ b.z ∷ p.x ∷ p.y ∷ p.z ∷ q.x ∷ q.y ∷ q.z ∷ []
 
-abbrev first : Symbols
+abbrev pub first : Symbols
 first = vector (var 0) (var 1) (var 2)
 
-abbrev second : Symbols
+abbrev pub second : Symbols
 second = vector (var 3) (var 4) (var 5)
 
-abbrev third : Symbols
+abbrev pub third : Symbols
 third = vector (var 6) (var 7) (var 8)
 
-abbrev fourth : Symbols
+abbrev pub fourth : Symbols
 fourth = vector (var 9) (var 10) (var 11)
 
-abbrev fifth : Symbols
+abbrev pub fifth : Symbols
 fifth = vector (var 12) (var 13) (var 14)
 
 -- ---- the laws

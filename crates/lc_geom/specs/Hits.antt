@@ -1,5 +1,5 @@
 -- Where a ray hits a triangle, and which of many it hits first.
-use Rattle.std.specs.Prelude.{ℕ, ◌+◌, ◌*◌, ◌/◌, ◌^◌, Bool, ◌&&◌, ◌||◌, nat_eq, nat_lt, nat_le, List, [], ◌∷◌, Option, Some, None, ◌+ℤ◌, unsigned_abs, if◌then◌else◌}
+use Rattle.std.specs.Prelude.{◌≡◌, ℕ, ◌+◌, ◌*◌, ◌/◌, ◌^◌, Bool, true, ◌&&◌, ◌||◌, nat_eq, nat_lt, nat_le, List, [], ◌∷◌, Option, Some, None, IsSomeAnd, slice_get, ◌+ℤ◌, unsigned_abs, if◌then◌else◌}
 use Rattle.std.specs.List.{list_any, filter_map, enumerate_from}
 use Rattle.lc_num.specs.declared.vectors.Vec3.{Vec3}
 use Rattle.lc_geom.specs.declared.triangle.Tri.{Tri}
@@ -51,3 +51,15 @@ first (a ∷ later) = Some (earlier a (first later))
 -- the nearest hit of a ray on a list of triangles
 unfoldable pub nearest : Vec3 → Vec3 → List Tri → Option Hit
 nearest e d ts = first (hits_from 0 e d ts)
+
+-- the triangle of the hit's number is one of the list, and the ray hits it at the hit's depth
+abbrev pub IsHitOf : Vec3 → Vec3 → List Tri → Hit → Type 0
+IsHitOf e d ts hit = IsSomeAnd (slice_get ts hit.number) (λ t. depth e d t ≡ Some hit.depth)
+
+-- no hit of the ray on the list comes before this one
+abbrev pub IsLeastOf : Vec3 → Vec3 → List Tri → Hit → Type 0
+IsLeastOf e d ts hit = (other : Hit) → IsHitOf e d ts other → is_before hit other ≡ true
+
+-- the ray hits no triangle of the list
+abbrev pub HitsNone : Vec3 → Vec3 → List Tri → Type 0
+HitsNone e d ts = (number : ℕ) (t : Tri) → slice_get ts number ≡ Some t → depth e d t ≡ None

@@ -3,3 +3,4 @@ pub use Rattle.lc_num.specs.Cosines
 pub mod Triangles
 pub mod Crossing
 pub mod Hits
+pub mod Points

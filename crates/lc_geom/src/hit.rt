@@ -17,8 +17,8 @@ pub struct Hit {
     pub number: u32,
 }
 
-/// The end of a ray's segment.
-pub(crate) fn moved(e: Vec3, d: Vec3) -> Vec3
+/// The end of the segment of a ray from `e` along `d`.
+pub fn moved(e: Vec3, d: Vec3) -> Vec3
     requires e { Within 50_100_000 e }
     requires end { Within 320_000_000 (moved e d) }
     ensures { result ≡ moved e d }

@@ -3,11 +3,13 @@
 
 mod crossing;
 mod hit;
+mod laws;
 mod triangle;
 mod triangles;
 
 pub use crossing::blocks;
-pub use hit::{Hit, depth};
+pub use hit::{Hit, depth, moved};
+pub use laws::{blocked_by, crossing_point, nearest_hit};
 pub use triangle::{Tri, is_flat, normal_of};
 pub use triangles::Triangles;
 

@@ -1,33 +1,12 @@
-use Rattle.std.proofs.Common.{◌≡◌, ℕ, zero, suc, refl, ◌<◌, arith, Bool, true, false, ap, ap₂, sym, ◌∙◌, ℤ, pos, negsuc, Some, None}
-use Rattle.std.specs.Prelude.{◌&&◌, ◌||◌, int_lt}
+use Rattle.std.proofs.Common.{◌≡◌, ℕ, refl, true, false, ap, ap₂, sym, ◌∙◌, Some, None}
 use Rattle.std.specs.Int.RustNames.{unsigned_abs}
 use Rattle.lc_num.specs.declared.vectors.Vec3.{Vec3}
 use Rattle.lc_geom.specs.declared.triangle.Tri.{Tri}
-use Rattle.lc_geom.specs.Crossing.{are_opposite, side, crosses}
+use Rattle.lc_geom.specs.Crossing.{side, crosses}
 use Rattle.lc_geom.specs.Hits.{depth, depth_between, moved}
 use Rattle.lc_geom.proofs.CrossingCode.{read_short}
+use Rattle.lc_geom.proofs.CrossingPoint.{off_end}
 use Rattle.lc_geom.proofs.hit.depth.Goals as goal
-
--- 0 is on neither side
-neither : (a b : Bool) → ((a && false) || (b && false)) ≡ true → 0 < 0
-neither true true e = absurd cc
-neither true false e = absurd cc
-neither false true e = absurd cc
-neither false false e = absurd cc
-
-opposite_some : (s r : ℤ) → are_opposite s r ≡ true → 0 < unsigned_abs r
-opposite_some s (pos zero) e = neither (int_lt s (pos 0)) (int_lt (pos 0) s) e
-opposite_some s (pos (suc n)) e = omega arith
-opposite_some s (negsuc n) e = omega arith
-
-first_holds : (a b : Bool) → (a && b) ≡ true → a ≡ true
-first_holds true b e = cc
-first_holds false b e = cc
-
--- the end of a segment that crosses lies off the plane
-end_off : (p q : Vec3) (t : Tri) → crosses p q t ≡ true → 0 < unsigned_abs (side t q)
-unfolding crosses
-end_off p q t e = opposite_some (side t p) (side t q) (first_holds _ _ e)
 
 -- the depth, where it is known whether the segment crosses
 depth_there : (e d q : Vec3) (t : Tri) (s r n : ℕ) → q ≡ moved e d → crosses e q t ≡ true → n ≡ depth_between s r → s ≡ unsigned_abs (side t e) → r ≡ unsigned_abs (side t q) → Some n ≡ depth e d t
@@ -47,7 +26,7 @@ end_size c = c.unsigned_abs-then-crosses_between.ensures.value ∙ ap unsigned_a
 
 pub depth_between-requires-clause-some : goal.depth_between-requires-clause-some
 depth_between-requires-clause-some c =
-    rw (end_size c) (end_off c.args.e c.moved-q.result c.args.t.now (sym c.crosses_between.ensures ∙ c.if-crosses_between.true))
+    rw (end_size c) (off_end c.args.e c.moved-q.result c.args.t.now (sym c.crosses_between.ensures ∙ c.if-crosses_between.true))
 
 pub returns-then-crosses_between-clause-value : goal.returns-then-crosses_between-clause-value
 returns-then-crosses_between-clause-value c =

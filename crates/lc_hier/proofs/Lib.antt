@@ -1,1 +1,17 @@
 pub mod Walking
+pub mod Layouts
+pub mod Walks
+pub mod Firsts
+pub mod RowLaws
+pub mod Answering
+pub mod Listing
+pub mod Places
+pub mod Growing
+pub mod Making
+pub mod Window
+pub mod SlabCode
+pub mod Missing
+pub mod ReciprocalLaws
+pub mod SlabLaws
+pub mod BeamCode
+pub mod BoundsLaws

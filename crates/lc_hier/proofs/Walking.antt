@@ -9,6 +9,7 @@ use Rattle.lc_geom.specs.declared.triangle.Tri.{Tri}
 use Rattle.lc_geom.specs.Crossing.{crosses}
 use Rattle.lc_geom.specs.declared.hit.Hit.{Hit}
 use Rattle.lc_geom.specs.Hits.{blocked, depth, hit_at, hits_from, is_before, earlier, first, nearest}
+use Rattle.lc_geom.proofs.Nearest.{before_both, after_both}
 use Rattle.lc_hier.specs.Sooner.{nearer, sooner}
 
 any_first : {A : Type 0} (test : A → Bool) (x : A) (xs : List A) → test x ≡ true → list_any test (x ∷ xs) ≡ true
@@ -43,12 +44,6 @@ before_later a b less = grind (arith, nat_tests)
 
 earlier_of_two : (a b : Hit) → a.number < b.number → earlier a (Some b) ≡ nearer (Some a) b
 earlier_of_two a b less = ap (λ t. if t then a else b) (before_later a b less)
-
-before_both : (a b c : Hit) → is_before a b ≡ true → is_before b c ≡ true → is_before a c ≡ true
-before_both a b c f g = grind (arith, nat_tests)
-
-after_both : (a b c : Hit) → is_before a b ≡ false → is_before b c ≡ false → is_before a c ≡ false
-after_both a b c f g = grind (arith, nat_tests)
 
 of_two : (a b : Hit) (t : Bool) → is_before a b ≡ t → earlier a (Some b) ≡ (if t then a else b)
 of_two a b t e = ap (λ t. if t then a else b) e

@@ -2,3 +2,10 @@ pub use Rattle.lc_geom.specs.Triangles
 pub use Rattle.lc_geom.specs.Crossing
 pub use Rattle.lc_geom.specs.Hits
 pub mod Sooner
+pub mod Boxes
+pub mod Rows
+pub mod Layout
+pub mod Seen
+pub mod Grown
+pub mod Passed
+pub mod Slabs

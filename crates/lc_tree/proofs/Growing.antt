@@ -19,7 +19,7 @@ set_after [] ys x y = refl
 set_after (z ∷ xs) ys x y = ap (λ us. z ∷ us) (set_after xs ys x y)
 
 abbrev pub leaf_row : {C : Type 0} → C → ℕ → Row C
-leaf_row c n = record { clump = c; leader = n; left = 0 }
+leaf_row c n = record { clump = c; leader = n; left = 0; count = 1 }
 
 -- what holds of the items holds of the parts of the sorted items
 pub of_front : {A : Type 0} (P : A → Type 0) (n : ℕ) (xs ys front : List A) → IsPermutation xs ys → front ≡ take n ys → All P xs → All P front
@@ -78,9 +78,9 @@ module _ {L C : Type 0} where
       go (length (e ∷ (f ∷ es)) / 2) (in_order (comes_before (longest_axis (e ∷ (f ∷ es)))) (e ∷ (f ∷ es))) (sym eh) (sym ey)
 
   -- the rows of two trees under a new root
-  pub grown_fork : (m : Meaning L C) (word : ℕ → ℕ) (lights : List L) (es ys : List (Numbered L)) (half : ℕ) (old ra rb : List (Row C)) (start rowa rowb : Row C) (at : ℕ) (c : C) (k : ℕ) → 1 < length es → half ≡ length es / 2 → ys ≡ in_order (comes_before (longest_axis es)) es → IsPermutation es ys → Grown m word lights (take half ys) (old ++ start ∷ []) ra rowa → Grown m word lights (drop half ys) ra rb rowb → c ≡ m.join rowa.clump rowb.clump → k ≡ (if takes_left (word (length old)) (power_weight (m.total rowa.clump)) (power_weight (m.total rowb.clump)) then rowa.leader else rowb.leader) → at ≡ length old → (let row : Row C = record { clump = c; leader = k; left = half } in Grown m word lights es old (slice_set rb at row) row)
+  pub grown_fork : (m : Meaning L C) (word : ℕ → ℕ) (lights : List L) (es ys : List (Numbered L)) (half : ℕ) (old ra rb : List (Row C)) (start rowa rowb : Row C) (at : ℕ) (c : C) (k : ℕ) → 1 < length es → half ≡ length es / 2 → ys ≡ in_order (comes_before (longest_axis es)) es → IsPermutation es ys → Grown m word lights (take half ys) (old ++ start ∷ []) ra rowa → Grown m word lights (drop half ys) ra rb rowb → c ≡ m.join rowa.clump rowb.clump → k ≡ (if takes_left (word (length old)) (power_weight (m.total rowa.clump)) (power_weight (m.total rowb.clump)) then rowa.leader else rowb.leader) → at ≡ length old → (let row : Row C = record { clump = c; leader = k; left = half; count = length es } in Grown m word lights es old (slice_set rb at row) row)
   grown_fork m word lights es ys half old ra rb start rowa rowb at c k more eh ey moved a b ec el ea =
-      let row : Row C = record { clump = c; leader = k; left = half } in
+      let row : Row C = record { clump = c; leader = k; left = half; count = length es } in
       let ta : Node L = a.tree in
       let tb : Node L = b.tree in
       let same_length : length ys ≡ length es = length_permutation es ys moved in
@@ -97,12 +97,14 @@ module _ {L C : Type 0} where
       let t : Node L = fork n l ta tb in
       let leads : k ≡ n = el ∙ rw (ca, cb, la, lb) refl in
       let rows_b : rb ≡ (old ++ start ∷ []) ++ (rows_of m.one m.join ta ++ rows_of m.one m.join tb) = b.rows ∙ ap (λ us. us ++ rows_of m.one m.join tb) a.rows ∙ append_assoc (old ++ start ∷ []) (rows_of m.one m.join ta) (rows_of m.one m.join tb) in
-      let mk : C → ℕ → ℕ → Row C = λ c k i. record { clump = c; leader = k; left = i } in
+      let mk : C → ℕ → ℕ → ℕ → Row C = λ c k i n. record { clump = c; leader = k; left = i; count = n } in
+      let counted : length es ≡ leaf_count ta + leaf_count tb = omega (arith, leaves_a, leaves_b, short, same_length) in
       let clumps : c ≡ m.join (clump_of m.one m.join ta) (clump_of m.one m.join tb) = ec ∙ rw (ca, cb) refl in
       let row_is : row ≡ row_of m.one m.join t =
-      ap (λ c. mk c k half) clumps
-      ∙ ap (λ k. mk (m.join (clump_of m.one m.join ta) (clump_of m.one m.join tb)) k half) leads
-      ∙ ap (mk (m.join (clump_of m.one m.join ta) (clump_of m.one m.join tb)) n) (sym leaves_a) in
+      ap (λ c. mk c k half (length es)) clumps
+      ∙ ap (λ k. mk (m.join (clump_of m.one m.join ta) (clump_of m.one m.join tb)) k half (length es)) leads
+      ∙ ap (λ i. mk (m.join (clump_of m.one m.join ta) (clump_of m.one m.join tb)) n i (length es)) (sym leaves_a)
+      ∙ ap (mk (m.join (clump_of m.one m.join ta) (clump_of m.one m.join tb)) n (leaf_count ta)) counted in
       let set : slice_set rb at row ≡ old ++ (row ∷ (rows_of m.one m.join ta ++ rows_of m.one m.join tb)) = ap (λ i. slice_set rb i row) ea ∙ ap (λ us. slice_set us (length old) row) rows_b ∙ set_after old (rows_of m.one m.join ta ++ rows_of m.one m.join tb) start row in
       let pa : length (old ++ start ∷ []) ≡ length old + 1 = length-append old (start ∷ []) in
       let pb : length ra ≡ length old + 2 * half = ap length a.rows ∙ omega (arith, length-append (old ++ start ∷ []) (rows_of m.one m.join ta), pa, length-rows_of m.one m.join ta, counts ta, leaves_a) in
@@ -124,7 +126,7 @@ module _ {L C : Type 0} where
       }
 
   -- the same from what was pushed and from the two parts
-  pub grown_parts : (m : Meaning L C) (word : ℕ → ℕ) (lights : List L) (es ys front back : List (Numbered L)) (half : ℕ) (old pushed ra rb : List (Row C)) (start rowa rowb : Row C) (at : ℕ) (c : C) (k w : ℕ) → 1 < length es → half ≡ length es / 2 → ys ≡ in_order (comes_before (longest_axis es)) es → IsPermutation es ys → pushed ≡ old ++ start ∷ [] → front ≡ take half ys → back ≡ drop half ys → Grown m word lights front pushed ra rowa → Grown m word lights back ra rb rowb → c ≡ m.join rowa.clump rowb.clump → k ≡ (if takes_left w (power_weight (m.total rowa.clump)) (power_weight (m.total rowb.clump)) then rowa.leader else rowb.leader) → w ≡ word (length old) → at ≡ length old → (let row : Row C = record { clump = c; leader = k; left = half } in Grown m word lights es old (slice_set rb at row) row)
+  pub grown_parts : (m : Meaning L C) (word : ℕ → ℕ) (lights : List L) (es ys front back : List (Numbered L)) (half : ℕ) (old pushed ra rb : List (Row C)) (start rowa rowb : Row C) (at : ℕ) (c : C) (k w : ℕ) → 1 < length es → half ≡ length es / 2 → ys ≡ in_order (comes_before (longest_axis es)) es → IsPermutation es ys → pushed ≡ old ++ start ∷ [] → front ≡ take half ys → back ≡ drop half ys → Grown m word lights front pushed ra rowa → Grown m word lights back ra rb rowb → c ≡ m.join rowa.clump rowb.clump → k ≡ (if takes_left w (power_weight (m.total rowa.clump)) (power_weight (m.total rowb.clump)) then rowa.leader else rowb.leader) → w ≡ word (length old) → at ≡ length old → (let row : Row C = record { clump = c; leader = k; left = half; count = length es } in Grown m word lights es old (slice_set rb at row) row)
   grown_parts m word lights es ys front back half old pushed ra rb start rowa rowb at c k w more eh ey moved ep ef eb a b ec el ew ea =
       grown_fork m word lights es ys half old ra rb start rowa rowb at c k more eh ey moved
       (subst (λ fs. Grown m word lights fs (old ++ start ∷ []) ra rowa) ef (subst (λ us. Grown m word lights front us ra rowa) ep a))

@@ -2,6 +2,7 @@ pub mod Cover
 pub mod Drawing
 pub mod Growing
 pub mod Halving
+pub mod Listing
 pub mod Members
 pub mod NodeLaws
 pub mod Numbering

@@ -126,7 +126,7 @@ module _ {L : Type 0} where
   numbered_leader lights (fork n l a b) h = h.0
 
 module _ {L : Type 0} where
-  length_numbers : (t : Node L) → length (numbers t) ≡ leaf_count t
+  pub length_numbers : (t : Node L) → length (numbers t) ≡ leaf_count t
   length_numbers (leaf n l) = refl
   length_numbers (fork n l a b) =
       omega (arith, length-append (numbers a) (numbers b), length_numbers a, length_numbers b)

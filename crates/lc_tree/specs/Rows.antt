@@ -1,6 +1,6 @@
 -- the rows of a tree, and the tree of rows
-use Rattle.std.specs.Prelude.{◌≡◌, ℕ, ◌+◌, ◌==◌, if◌then◌else◌, List, [], ◌∷◌, ◌++◌, Option, None, Some, refl, slice_get, length, ◌<◌, ◌≤◌, ◌⊎◌, MatchOption, IsPermutation, All, false}
-use Rattle.std.specs.List.{range_with_len}
+use Rattle.std.specs.Prelude.{◌≡◌, ℕ, ◌+◌, ◌==◌, if◌then◌else◌, List, [], ◌∷◌, ◌++◌, Option, None, Some, refl, slice_get, get_or, length, map, take, ◌<◌, ◌≤◌, ◌⊎◌, MatchOption, IsPermutation, All, false}
+use Rattle.std.specs.List.{filter, range_with_len}
 use Rattle.std.proofs.Common.{ap, ◌∙◌, arith}
 use Rattle.std.proofs.lemmas.List.{append_assoc}
 use Rattle.std.proofs.lemmas.Bool.Decides.{nat_tests}
@@ -13,6 +13,17 @@ leaves_positive (fork n l a b) = omega (arith, leaves_positive a)
 
 leaves_some : {L : Type 0} → (t : Node L) → (leaf_count t == 0) ≡ false
 leaves_some t = let some : 0 < leaf_count t = leaves_positive t in grind (arith, nat_tests)
+
+module _ {C : Type 0} where
+  -- the light numbers of the leaves' rows
+  abbrev pub leaf_numbers : List (Row C) → List ℕ
+  leaf_numbers rows = map (λ r. r.leader) (filter (λ r. r.left == 0) rows)
+
+  -- the light numbers of the leaves, and for each row how many leaves stand before it
+  pub record IsListed (rows : List (Row C)) (order firsts : List ℕ) : Type 0 where
+    pub order_is : order ≡ leaf_numbers rows
+    pub each : length firsts ≡ length rows
+    pub firsts_are : (k : ℕ) → k < length rows → get_or firsts k 0 ≡ length (leaf_numbers (take k rows))
 
 module _ {L C : Type 0} where
   abbrev pub grown : Option L → Row C → List (Node L) → List (Node L)
@@ -29,8 +40,8 @@ module _ {L C : Type 0} where
 
   -- the row of a node
   abbrev pub row_of : (L → C) → (C → C → C) → Node L → Row C
-  row_of one join (leaf n l) = record { clump = one l; leader = n; left = 0 }
-  row_of one join (fork n l a b) = record { clump = join (clump_of one join a) (clump_of one join b); leader = n; left = leaf_count a }
+  row_of one join (leaf n l) = record { clump = one l; leader = n; left = 0; count = 1 }
+  row_of one join (fork n l a b) = record { clump = join (clump_of one join a) (clump_of one join b); leader = n; left = leaf_count a; count = leaf_count a + leaf_count b }
 
   -- the rows of a tree, in order of the nodes' numbers
   abbrev pub rows_of : (L → C) → (C → C → C) → Node L → List (Row C)

@@ -90,9 +90,11 @@ fn grow<K: Kind>(
         clump: K::one(&first.light),
         leader: first.number,
         left: 0,
+        count: 1,
     };
     rows.push(leaf)?;
-    let half = lights.len() / 2;
+    let count = lights.len();
+    let half = count / 2;
     if half == 0 {
         return Ok(leaf);
     }
@@ -105,6 +107,7 @@ fn grow<K: Kind>(
         clump: K::join(&a.clump, &b.clump),
         leader: leading::<K>(word, &a, &b),
         left: half as u32,
+        count: count as u32,
     };
     rows[at] = row;
     Ok(row)

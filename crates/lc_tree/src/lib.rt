@@ -3,6 +3,7 @@
 
 mod axis;
 mod build;
+mod leaves;
 mod numbered;
 mod row;
 mod tree;

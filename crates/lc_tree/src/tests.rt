@@ -86,11 +86,13 @@ fn three_lamps(rt: HostRuntime) -> Result<(), Fail> {
     let kids = [Some((1, 2)), None, Some((3, 4)), None, None];
     let leaders = [2, 1, 2, 2, 0];
     let weights = [30000, 0, 30000, 30000, 0];
+    let members: [&[u32]; 5] = [&[1, 2, 0], &[1], &[2, 0], &[2], &[0]];
     for node in 0..5 {
         if node < tree.count() {
             assert_eq!(rt; tree.kids(node), kids[node as usize], "at {node}");
             assert_eq!(rt; tree.leader(node), leaders[node as usize], "at {node}");
             assert_eq!(rt; tree.weight(node), weights[node as usize], "at {node}");
+            assert_eq!(rt; tree.members(node), members[node as usize], "at {node}");
         }
     }
     Ok(())

@@ -2,11 +2,12 @@
 ghost use Rattle.std.specs.Prelude.{◌≡◌, ◌<◌, ◌≤◌, ◌^◌, All, length, slice_get, Some, IsSomeAnd, IfOk};
 ghost use Rattle.lc_tree.specs.Build.{tree_of, weight_of};
 ghost use Rattle.lc_tree.specs.Cover.{IsClumpOf, IsLeaderOf};
-ghost use Rattle.lc_tree.specs.Node.{count_of, kids_of, node_of};
+ghost use Rattle.lc_tree.specs.Node.{count_of, kids_of, node_of, numbers};
 ghost use Rattle.lc_tree.specs.Rows.{IsRowOf, IsTreeIf};
 ghost use Rattle.lc_words.specs.Words.{stream_word};
 
 use crate::build::{clump_weight, rows_of_tree};
+use crate::leaves::{Leaves, leaves_of};
 use crate::row::Row;
 use lc_num::Memory;
 use lc_terms::Kind;
@@ -19,11 +20,12 @@ use std::marker::Model;
 pub struct Tree<K: Kind> {
     lights: Vec<K::Light>,
     rows: Vec<Row<K::Clump>>,
+    leaves: Leaves,
 }
 
 impl<K: Kind> Model for Tree<K> {
     ghost use Rattle.lc_tree.specs.Node.{Kept, coded_kept};
-    ghost use Rattle.lc_tree.specs.Rows.{read_rows, IsLaidIf};
+    ghost use Rattle.lc_tree.specs.Rows.{read_rows, IsLaidIf, IsListed};
 
     ghost Value = { Kept K.Light };
 
@@ -31,7 +33,7 @@ impl<K: Kind> Model for Tree<K> {
 
     ghost view = { λ t. record { lights = t.lights.items; root = read_rows t.lights.items t.rows.items } };
 
-    ghost invariant = { λ t. IsLaidIf K.meaning.valid_light K.meaning.one K.meaning.join t.lights.items t.rows.items };
+    ghost invariant = { λ t. IsLaidIf K.meaning.valid_light K.meaning.one K.meaning.join t.lights.items t.rows.items × IsListed t.rows.items t.leaves.order.items t.leaves.firsts.items };
 }
 
 impl<K: Kind> Tree<K> {
@@ -47,9 +49,14 @@ impl<K: Kind> Tree<K> {
         ensures { IfOk result (λ t. t ≡ record { lights = lights.now; root = tree_of K.meaning (stream_word seed stream) lights.now }) }
     {
         let rows = rows_of_tree::<K>(alloc, lights, seed, stream)?;
+        let leaves = leaves_of(alloc, &rows)?;
         let mut held = Vec::new(alloc);
         held.extend_from_slice(lights)?;
-        Ok(Tree { lights: held, rows })
+        Ok(Tree {
+            lights: held,
+            rows,
+            leaves,
+        })
     }
 
     /// The number of nodes: one less than twice the number of lights, and 0 for the empty tree.
@@ -98,6 +105,16 @@ impl<K: Kind> Tree<K> {
         ensures below { result < length self.now.lights }
     {
         self.row(node).leader
+    }
+
+    /// The numbers of the lights in the leaves below a node, from the left.
+    pub fn members(&self, node: u32) -> &[u32]
+        requires { node < count_of self.now.root }
+        ensures { IsSomeAnd (node_of self.now.root node) (λ t. result.now ≡ numbers t) }
+    {
+        let count = self.row(node).count as usize;
+        let first = self.leaves.firsts[node as usize] as usize;
+        &self.leaves.order[first..first + count]
     }
 
     /// The light of a number.

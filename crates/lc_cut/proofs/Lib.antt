@@ -1,5 +1,6 @@
 pub mod Building
-pub mod RatingLaws
+pub mod LitLaws
+pub mod Children
 pub mod Rooted
 pub mod Whole
 pub mod SumLimits

@@ -1,4 +1,4 @@
--- The rated trees of a forest: within their bounds, limited, and with the sum over all lights as their full sum.
+-- The lit trees of a forest: within their bounds, limited, and with the sum over all lights as their full sum.
 use Rattle.std.proofs.Common.{◌≡◌, ℕ, ◌+◌, ◌≤◌, List, [], length, Option, None, Some, sum_by, refl, subst, arith, MatchOption}
 use Rattle.std.specs.Prelude.{IfSome}
 use Rattle.lc_num.specs.declared.channels.Rgb.{Rgb}
@@ -17,16 +17,16 @@ use Rattle.lc_tree.specs.Node.{Node, leaf_count}
 use Rattle.lc_tree.specs.Rows.{IsTree}
 use Rattle.lc_tree.proofs.NodeLaws.{leaf_for_each}
 use Rattle.lc_tree.proofs.Members.{sum_members}
-use Rattle.lc_rated.specs.Rated.{full_of, EachTree, AreBounded, IsBounded, IsLimited, red, green, blue, most_of_leaf}
-use Rattle.lc_rated.specs.Rated as rates
+use Rattle.lc_rated.specs.LitTrees.{full_of, EachTree, AreBounded, IsBounded, IsLimited, red, green, blue, most_of_leaf}
+use Rattle.lc_rated.specs.LitTrees as lits
 use Rattle.lc_rated.specs.Cuts.{AreLimited, IsNear, answer, roots_of, leaf_sum, full_sum, full_light}
 use Rattle.lc_rated.proofs.CutSums.{count_of, tree_sum-roots_of}
 use Rattle.lc_rated.proofs.CutSequence.{near}
 use Rattle.lc_cut.specs.declared.forest.Forest.{Forest}
 use Rattle.lc_cut.specs.Contribution.{contribution, plain}
-use Rattle.lc_cut.specs.Rating.{rated_root}
+use Rattle.lc_cut.specs.Lit.{lit_root}
 use Rattle.lc_cut.specs.Forest.{IsForest, lights_of, trees_of}
-use Rattle.lc_cut.proofs.RatingLaws.{IsChannel, red_channel, green_channel, blue_channel, rated_bounded, rated_limited, leaves_rated, full_members}
+use Rattle.lc_cut.proofs.LitLaws.{IsChannel, red_channel, green_channel, blue_channel, lit_bounded, lit_limited, leaves_lit, full_members}
 
 -- one tree of any kind
 module _ {L C : Type 0} (m : Meaning L C) (laws : Laws m) (ts : List Tri) (spot : Spot) (hs : IsSpot spot) (lights : List L) where
@@ -36,21 +36,21 @@ module _ {L C : Type 0} (m : Meaning L C) (laws : Laws m) (ts : List Tri) (spot 
   few_leaves : (t : Node L) → IsTree m.valid_light lights t → leaf_count t ≤ 65536
   few_leaves t h = omega (arith, leaf_for_each m.valid_light lights t h, h.few)
 
-  bounded : (c : Rgb → ℕ) (w : Power → ℕ) → IsChannel c w → (root : Option (Node L)) → IsTreeOf root → IfSome (rated_root m ts spot root) (IsBounded c)
+  bounded : (c : Rgb → ℕ) (w : Power → ℕ) → IsChannel c w → (root : Option (Node L)) → IsTreeOf root → IfSome (lit_root m ts spot root) (IsBounded c)
   bounded c w ch None h = tt
-  bounded c w ch (Some t) h = rated_bounded c w ch m ts spot laws hs lights h.valid_lights t h.numbered h.led (few_leaves t h)
+  bounded c w ch (Some t) h = lit_bounded c w ch m ts spot laws hs lights h.valid_lights t h.numbered h.led (few_leaves t h)
 
-  limited : (c : Rgb → ℕ) (w : Power → ℕ) → IsChannel c w → (root : Option (Node L)) → IsTreeOf root → IfSome (rated_root m ts spot root) (IsLimited c most_of_leaf)
+  limited : (c : Rgb → ℕ) (w : Power → ℕ) → IsChannel c w → (root : Option (Node L)) → IsTreeOf root → IfSome (lit_root m ts spot root) (IsLimited c most_of_leaf)
   limited c w ch None h = tt
-  limited c w ch (Some t) h = rated_limited c w ch m ts spot laws hs lights h.valid_lights t h.numbered h.led (few_leaves t h)
+  limited c w ch (Some t) h = lit_limited c w ch m ts spot laws hs lights h.valid_lights t h.numbered h.led (few_leaves t h)
 
   -- there is a leaf for each light
-  leaves : (root : Option (Node L)) → IsTreeOf root → count_of rates.leaf_count (rated_root m ts spot root) ≡ length lights
+  leaves : (root : Option (Node L)) → IsTreeOf root → count_of lits.leaf_count (lit_root m ts spot root) ≡ length lights
   leaves None h = rw h refl
-  leaves (Some t) h = omega (arith, leaves_rated m ts spot t, leaf_for_each m.valid_light lights t h)
+  leaves (Some t) h = omega (arith, leaves_lit m ts spot t, leaf_for_each m.valid_light lights t h)
 
   -- the full sum is that over the lights
-  full : (c : Rgb → ℕ) (root : Option (Node L)) → IsTreeOf root → count_of (full_of c) (rated_root m ts spot root) ≡ sum_by (λ l. c (contribution m ts spot l)) lights
+  full : (c : Rgb → ℕ) (root : Option (Node L)) → IsTreeOf root → count_of (full_of c) (lit_root m ts spot root) ≡ sum_by (λ l. c (contribution m ts spot l)) lights
   full c None h = rw h refl
   full c (Some t) h = omega (arith, full_members c m ts spot t, sum_members (λ l. c (contribution m ts spot l)) m.valid_light lights t h)
 
@@ -77,7 +77,7 @@ module _ (ts : List Tri) (spot : Spot) (hs : IsSpot spot) (forest : Forest) (h :
   few =
       omega (
         arith,
-        tree_sum-roots_of rates.leaf_count (trees_of ts spot forest),
+        tree_sum-roots_of lits.leaf_count (trees_of ts spot forest),
         leaves omni_meaning omni_laws ts spot hs forest.omni.lights forest.omni.root h.omni,
         leaves oriented_meaning oriented_laws ts spot hs forest.oriented.lights forest.oriented.root h.oriented,
         leaves sun_meaning sun_laws ts spot hs forest.sun.lights forest.sun.root h.sun,

@@ -1,5 +1,6 @@
 -- The trees of a forest: their lights, what holds of them, and what they have at a spot.
 use Rattle.std.specs.Prelude.{ℕ, ◌+◌, ◌≤◌, List, length}
+use Rattle.lc_num.specs.declared.channels.Rgb.{Rgb}
 use Rattle.lc_geom.specs.declared.triangle.Tri.{Tri}
 use Rattle.lc_light.specs.Lights.{IsOmni, IsOriented, IsSun}
 use Rattle.lc_light.specs.declared.lights.Lights.{Lights}
@@ -10,9 +11,11 @@ use Rattle.lc_bound.specs.Oriented.{oriented_meaning}
 use Rattle.lc_bound.specs.Sun.{sun_meaning}
 use Rattle.lc_tree.specs.Build.{tree_of}
 use Rattle.lc_tree.specs.Rows.{IsTreeIf}
-use Rattle.lc_rated.specs.Rated.{Trees}
+use Rattle.lc_rated.specs.LitTrees.{Trees}
+use Rattle.lc_rated.specs.declared.kind.LightKind.{LightKind}
+use Rattle.lc_rated.specs.declared.kind.LightKind.TheVariants as kind
 use Rattle.lc_cut.specs.declared.forest.Forest.{Forest}
-use Rattle.lc_cut.specs.Rating.{rated_root}
+use Rattle.lc_cut.specs.Lit.{lit_root, IsFactor}
 
 -- the trees of lists of lights by halving, with the words of streams 0, 1 and 2
 abbrev pub forest_of : ℕ → Lights → Forest
@@ -37,10 +40,16 @@ pub record IsForest (forest : Forest) : Type 0 where
   pub sun : IsTreeIf IsSun forest.sun
   pub few : light_count (lights_of forest) ≤ 65536
 
--- the rated trees of a forest at a spot among triangles
+-- the lit trees of a forest at a spot among triangles
 abbrev pub trees_of : List Tri → Spot → Forest → Trees
 trees_of ts spot forest = record {
-  omni = rated_root omni_meaning ts spot forest.omni.root;
-  oriented = rated_root oriented_meaning ts spot forest.oriented.root;
-  sun = rated_root sun_meaning ts spot forest.sun.root;
+  omni = lit_root omni_meaning ts spot forest.omni.root;
+  oriented = lit_root oriented_meaning ts spot forest.oriented.root;
+  sun = lit_root sun_meaning ts spot forest.sun.root;
 }
+
+-- what is kept of a node of a forest: its representative's factor
+abbrev pub keeps_of : List Tri → Spot → Forest → LightKind → ℕ → Rgb → Type 0
+keeps_of ts spot forest kind.Omni = IsFactor omni_meaning ts spot forest.omni.root
+keeps_of ts spot forest kind.Oriented = IsFactor oriented_meaning ts spot forest.oriented.root
+keeps_of ts spot forest kind.Sun = IsFactor sun_meaning ts spot forest.sun.root

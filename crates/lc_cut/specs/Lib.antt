@@ -1,5 +1,5 @@
 pub mod Contribution
-pub mod Rating
+pub mod Lit
 pub mod Forest
 pub use Rattle.lc_num.specs.Channels
 pub use Rattle.lc_geom.specs.Triangles

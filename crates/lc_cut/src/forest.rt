@@ -7,12 +7,12 @@ ghost use Rattle.lc_rated.specs.Cuts.{IsFraction, IsNear, answer};
 ghost use Rattle.lc_cut.specs.Contribution.{plain};
 ghost use Rattle.lc_cut.specs.Forest.{IsForest, forest_of, light_count, lights_of, trees_of};
 
-use crate::rating::Rating;
+use crate::lit_forest::LitForest;
 use lc_bound::{OmniKind, OrientedKind, SunKind};
 use lc_geom::Triangles;
 use lc_light::Lights;
-use lc_num::{Memory, Steps};
-use lc_rated::{Answer, Bench, best_cut};
+use lc_num::{Memory, Rgb, Steps};
+use lc_rated::{Answer, best_cut};
 use lc_terms::Spot;
 use lc_tree::Tree;
 use std::alloc::Global;
@@ -49,9 +49,12 @@ impl Forest {
 pub struct Ask {
     /// The thousandths of the estimate that the bound may be, at most 1000.
     pub permille: u32,
-    /// The greatest size of a cut, 3 to 65,536.
+    /// The greatest size of a cut, at least 3.
     pub size: u32,
 }
+
+/// The working memory of cuts, seen by contracts as the greatest size that it is made for.
+pub type Bench = lc_rated::Bench<Rgb>;
 
 /// What the three trees keep, which each says beside its count.
 fn known(forest: &Forest)
@@ -63,9 +66,9 @@ fn known(forest: &Forest)
     forest.sun.count();
 }
 
-/// The light at a matte spot among the triangles of a scene, by the best-first cut through the three trees (Lightcuts
-/// 2005): the answer of the first cut whose bound is at most `permille` thousandths of its estimate in each channel, or
-/// that has the greatest size. Each representative that is evaluated counts one step. It takes no memory.
+/// The light at a matte spot among the triangles of a scene, by the best-first cut through the three trees: the answer of
+/// the first cut whose bound is at most `permille` thousandths of its estimate in each channel, or that has the greatest
+/// size. Each root and each refinement evaluates one light, which counts one step. It takes no memory.
 pub fn cut<T: Triangles, L: Ledger>(
     bench: &mut Bench,
     forest: &Forest,
@@ -79,23 +82,23 @@ pub fn cut<T: Triangles, L: Ledger>(
     requires spot { IsSpot spot.now }
     requires matte { IsMatte spot.now }
     requires least { 3 ≤ ask.size }
-    requires most { ask.size ≤ 65536 }
     requires permille { ask.permille ≤ 1000 }
     ensures value { result ≡ answer ask.size ask.permille (trees_of (T.list scene.now) spot.now forest.now) }
     ensures near { IsNear (plain (T.list scene.now) spot.now (lights_of forest.now)) result }
     ensures fraction { (result.size ≡ ask.size) ⊎ IsFraction ask.permille result }
     ensures size { result.size ≤ ask.size }
     ensures evals { result.evals ≤ 2 * ask.size }
+    ensures each { result.evals ≡ result.size }
     ensures est { IsRgbWithin (2 ^ 117 - 1) result.est }
     ensures bound { IsRgbWithin (2 ^ 117 - 1) result.bound }
     ensures steps { steps.new ≡ steps.old + result.evals }
     ensures bench { bench.new ≡ bench.old }
 {
     known(forest);
-    let mut rating = Rating {
+    let lit = LitForest {
         forest,
         spot,
         scene,
     };
-    best_cut(bench, &mut rating, ask.size, ask.permille, steps)
+    best_cut(bench, &lit, ask.size, ask.permille, steps)
 }

@@ -3,12 +3,12 @@
 
 mod forest;
 mod laws;
+mod lit_forest;
 mod node;
-mod rating;
 
-pub use forest::{Ask, Forest, cut};
+pub use forest::{Ask, Bench, Forest, cut};
 pub use laws::{distance_to_all_lights, forests_of_all_lights, sums_fit};
-pub use lc_rated::{Answer, Bench};
+pub use lc_rated::Answer;
 
 #[cfg(test)]
 mod tests;

@@ -1,14 +1,17 @@
-// What a node of a light tree has at a spot.
-ghost use Rattle.std.specs.Prelude.{◌≡◌, ◌+◌, ◌*◌, ◌^◌, ◌<◌, ◌≤◌, IsSomeAnd};
+// What a node of a light tree gives at a spot.
+ghost use Rattle.std.specs.Prelude.{◌≡◌, ◌+◌, ◌*◌, ◌^◌, ◌<◌, ◌≤◌, Some, if◌then◌else◌, is_some, IsSomeAnd};
 ghost use Rattle.lc_num.specs.Channels.{IsPowerWithin, IsRgbWithin};
 ghost use Rattle.lc_terms.specs.Channels.{by_power};
 ghost use Rattle.lc_terms.specs.Spot.{IsMatte, IsSpot};
-ghost use Rattle.lc_tree.specs.Node.{count_of, leader, node_of};
-ghost use Rattle.lc_cut.specs.Rating.{bound_of, rate_at};
+ghost use Rattle.lc_tree.specs.Node.{count_of, kids_of, leader, members, node_of};
+ghost use Rattle.lc_tree.specs.Cover.{power_sum};
+ghost use Rattle.lc_tree.specs.Rows.{IsTreeIf};
+ghost use Rattle.lc_rated.specs.Finding.{IsRoot, IsSplit};
+ghost use Rattle.lc_cut.specs.Lit.{bound_of, light_by, lit, lit_root, IsFactor};
 
 use lc_geom::Triangles;
 use lc_num::{Power, Rgb, Steps};
-use lc_rated::Rate;
+use lc_rated::{Found, NodeLight, Split};
 use lc_terms::{Kind, Spot, eval};
 use lc_tree::Tree;
 use std::sync::ledger::Ledger;
@@ -54,29 +57,142 @@ fn total<K: Kind>(clump: &K::Clump) -> Power
     K::total(clump)
 }
 
-/// The estimate and the bound of a node. Its representative is evaluated, which counts one step.
-pub(crate) fn rate<K: Kind, T: Triangles, L: Ledger>(
+/// The estimate of a node whose representative has this factor.
+fn estimate<K: Kind>(tree: &Tree<K>, node: u32, factor: Rgb) -> Rgb
+    requires node { node < count_of tree.now.root }
+    requires factor { IsRgbWithin (20_000 * 65_536 * 10 ^ 13) factor }
+    ensures { IsSomeAnd (node_of tree.now.root node) (λ t. result ≡ by_power factor (power_sum K.meaning (members t))) }
+{
+    by_power(factor, total::<K>(&tree.clump(node)))
+}
+
+/// The bound of a node.
+fn bound<K: Kind>(tree: &Tree<K>, node: u32, spot: &Spot) -> Rgb
+    requires spot { IsSpot spot.now }
+    requires matte { IsMatte spot.now }
+    requires node { node < count_of tree.now.root }
+    ensures { IsSomeAnd (node_of tree.now.root node) (λ t. result ≡ bound_of K.meaning spot.now t) }
+{
+    if tree.kids(node).is_some() {
+        K::top(spot, &tree.clump(node))
+    } else {
+        BLACK
+    }
+}
+
+/// What is found of a node whose representative has this factor.
+fn found<K: Kind>(tree: &Tree<K>, node: u32, spot: &Spot, factor: Rgb) -> Found<Rgb>
+    requires spot { IsSpot spot.now }
+    requires matte { IsMatte spot.now }
+    requires node { node < count_of tree.now.root }
+    requires factor { IsRgbWithin (20_000 * 65_536 * 10 ^ 13) factor }
+    ensures node { result.node ≡ node }
+    ensures light { IsSomeAnd (node_of tree.now.root node) (λ t. result.light ≡ light_by K.meaning spot.now factor t) }
+    ensures kept { result.kept ≡ factor }
+{
+    Found {
+        node,
+        light: NodeLight {
+            est: estimate(tree, node, factor),
+            bound: bound(tree, node, spot),
+        },
+        kept: factor,
+    }
+}
+
+/// The factor of a node's representative. It is evaluated, which counts one step.
+fn factor<K: Kind, T: Triangles, L: Ledger>(
     tree: &Tree<K>,
     node: u32,
     spot: &Spot,
     scene: &T,
     steps: &mut Steps<L>,
-) -> Rate
+) -> Rgb
     requires spot { IsSpot spot.now }
     requires matte { IsMatte spot.now }
     requires node { node < count_of tree.now.root }
-    ensures value { IsSomeAnd (node_of tree.now.root node) (λ t. result ≡ rate_at K.meaning (T.list scene.now) spot.now t) }
+    ensures factor { IsFactor K.meaning (T.list scene.now) spot.now tree.now.root node result }
     ensures steps { steps.new ≡ steps.old + 1 }
 {
-    let factor = eval::<K, T, L>(spot, &leading(tree, node), scene, steps);
-    let clump = tree.clump(node);
-    let bound = if tree.kids(node).is_some() {
-        K::top(spot, &clump)
+    eval::<K, T, L>(spot, &leading(tree, node), scene, steps)
+}
+
+/// What a tree keeps, which it says beside its count.
+fn known<K: Kind>(tree: &Tree<K>)
+    ensures { IsTreeIf K.meaning.valid_light tree.now }
+{
+    tree.count();
+}
+
+/// The factors of the children of a node that has this factor. That of the child with the node's representative is taken
+/// over, and the representative of the other is evaluated, which counts one step.
+fn factors<K: Kind, T: Triangles, L: Ledger>(
+    tree: &Tree<K>,
+    node: u32,
+    left: u32,
+    right: u32,
+    kept: Rgb,
+    spot: &Spot,
+    scene: &T,
+    steps: &mut Steps<L>,
+) -> (Rgb, Rgb)
+    requires spot { IsSpot spot.now }
+    requires matte { IsMatte spot.now }
+    requires node { node < count_of tree.now.root }
+    requires kids { IsSomeAnd (node_of tree.now.root node) (λ t. Some (left, right) ≡ kids_of node t) }
+    requires kept { IsFactor K.meaning (T.list scene.now) spot.now tree.now.root node kept }
+    ensures left { IsFactor K.meaning (T.list scene.now) spot.now tree.now.root left result.0 }
+    ensures right { IsFactor K.meaning (T.list scene.now) spot.now tree.now.root right result.1 }
+    ensures steps { steps.new ≡ steps.old + 1 }
+{
+    known(tree);
+    if tree.leader(left) == tree.leader(node) {
+        (kept, factor(tree, right, spot, scene, steps))
     } else {
-        BLACK
-    };
-    Rate {
-        est: by_power(factor, total::<K>(&clump)),
-        bound,
+        (factor(tree, left, spot, scene, steps), kept)
     }
+}
+
+/// The root of a tree, if there is one.
+pub(crate) fn root<K: Kind, T: Triangles, L: Ledger>(
+    tree: &Tree<K>,
+    spot: &Spot,
+    scene: &T,
+    steps: &mut Steps<L>,
+) -> Option<Found<Rgb>>
+    requires spot { IsSpot spot.now }
+    requires matte { IsMatte spot.now }
+    ensures root { IsRoot (IsFactor K.meaning (T.list scene.now) spot.now tree.now.root) (lit_root K.meaning (T.list scene.now) spot.now tree.now.root) result }
+    ensures steps { steps.new ≡ steps.old + (if is_some result then 1 else 0) }
+{
+    if tree.count() == 0 {
+        return None;
+    }
+    let factor = factor(tree, 0, spot, scene, steps);
+    Some(found(tree, 0, spot, factor))
+}
+
+/// The children of a node whose representative has this factor.
+pub(crate) fn split<K: Kind, T: Triangles, L: Ledger>(
+    tree: &Tree<K>,
+    node: u32,
+    kept: Rgb,
+    spot: &Spot,
+    scene: &T,
+    steps: &mut Steps<L>,
+) -> Option<Split<Rgb>>
+    requires spot { IsSpot spot.now }
+    requires matte { IsMatte spot.now }
+    requires node { node < count_of tree.now.root }
+    requires kept { IsFactor K.meaning (T.list scene.now) spot.now tree.now.root node kept }
+    ensures split { IsSomeAnd (node_of tree.now.root node) (λ t. IsSplit (IsFactor K.meaning (T.list scene.now) spot.now tree.now.root) node (lit K.meaning (T.list scene.now) spot.now t) result) }
+    ensures steps { steps.new ≡ steps.old + (if is_some result then 1 else 0) }
+{
+    let (left, right) = tree.kids(node)?;
+    let kept_by = factors(tree, node, left, right, kept, spot, scene, steps);
+    Some(Split {
+        est: estimate(tree, node, kept),
+        left: found(tree, left, spot, kept_by.0),
+        right: found(tree, right, spot, kept_by.1),
+    })
 }

@@ -59,7 +59,6 @@ fn count<L: Ledger>(
     requires few { light_count (lights_of forest.now) ≤ 65536 }
     requires permille { ask.permille ≤ 1000 }
     requires least { 3 ≤ ask.size }
-    requires most { ask.size ≤ 65536 }
     requires name { blank.name ≡ L.name }
     requires parts { blank.parts ≡ L.parts }
     requires some { 0 < blank.parts }
@@ -86,7 +85,6 @@ fn look(bench: &mut Bench, forest: &Forest, scene: &Counting, ask: Ask) -> Answe
     requires few { light_count (lights_of forest.now) ≤ 65536 }
     requires permille { ask.permille ≤ 1000 }
     requires least { 3 ≤ ask.size }
-    requires most { ask.size ≤ 65536 }
     ensures { bench.new ≡ bench.old }
 {
     count::<Brand>(bench, forest, scene, ask, Blank::new(1))
@@ -157,7 +155,7 @@ fn takes_two_lights_alone_or_together(rt: HostRuntime) -> Result<(), Fail> {
         b: 9_830_400_000_000_000_000_000,
     };
     let fine = answer(rt.alloc(), text, 20)?;
-    assert_eq!(rt; (fine.size, fine.evals), (2, 3));
+    assert_eq!(rt; (fine.size, fine.evals), (2, 2));
     assert_eq!(rt; fine.est, est);
     assert_eq!(rt; fine.bound, gray(0));
     let coarse = answer(rt.alloc(), text, 1000)?;
@@ -183,7 +181,7 @@ fn cuts_three_trees_at_once(rt: HostRuntime) -> Result<(), Fail> {
     let text = b"sun 0 0 5 1 1 1\narea 0 0 1 0 0.0001 0 0.0001 0 0 1 1 1 3\npoint 0 0 1 1 1 1\n";
     let est = gray(19_660_800_000_000_000_000_000);
     let fine = answer(rt.alloc(), text, 20)?;
-    assert_eq!(rt; (fine.size, fine.evals), (5, 7));
+    assert_eq!(rt; (fine.size, fine.evals), (5, 5));
     assert_eq!(rt; fine.est, est);
     assert_eq!(rt; fine.bound, gray(0));
     // The bound of the samples is a third of the light of all.

@@ -4,16 +4,16 @@ use Rattle.std.proofs.lemmas.Bool.Decides.{nat_tests}
 use Rattle.lc_num.specs.declared.channels.Rgb.{Rgb}
 use Rattle.lc_rated.specs.declared.kind.LightKind.{LightKind}
 use Rattle.lc_rated.specs.declared.kind.LightKind.TheVariants as kind
-use Rattle.lc_rated.specs.Rated.{Rated, leaf, fork, rate_of, full_of, IsBounded, AreBounded, red, green, blue, Trees, EachTree}
+use Rattle.lc_rated.specs.LitTrees.{LitTree, leaf, fork, light_of, full_of, IsBounded, AreBounded, red, green, blue, Trees, EachTree}
 use Rattle.lc_rated.specs.Cuts.{Placed, key_of, greatest_key, parts_of, replaced, refined, root_of, roots_of, cut_at, est_sum, bound_sum, full_sum, full_light, EachNode, IsNear, IsFraction, is_within, stops, least, refinements, chosen, answer_of, answer, apart}
 use Rattle.lc_rated.proofs.CutSums.{est-cons, bound-cons, full-cons, full-cut_at, each_cut_at, each_of_trees}
 
 -- distance of one tree
-tree_high : (c : Rgb → ℕ) (t : Rated) → IsBounded c t → full_of c t ≤ c (rate_of t).est + c (rate_of t).bound
+tree_high : (c : Rgb → ℕ) (t : LitTree) → IsBounded c t → full_of c t ≤ c (light_of t).est + c (light_of t).bound
 tree_high c (leaf e) h = omega arith
 tree_high c (fork r a b) h = h.1
 
-tree_low : (c : Rgb → ℕ) (t : Rated) → IsBounded c t → c (rate_of t).est ≤ full_of c t + c (rate_of t).bound
+tree_low : (c : Rgb → ℕ) (t : LitTree) → IsBounded c t → c (light_of t).est ≤ full_of c t + c (light_of t).bound
 tree_low c (leaf e) h = omega arith
 tree_low c (fork r a b) h = h.0
 
@@ -29,7 +29,7 @@ sum_low : (c : Rgb → ℕ) (cut : List Placed) → EachNode (IsNodeBounded c) c
 sum_low c [] h = omega arith
 sum_low c (p ∷ ps) h = omega (arith, full-cons c p ps, est-cons c p ps, bound-cons c p ps, tree_low c p.tree h.0, sum_low c ps h.1)
 
-bounded_parts : (c : Rgb → ℕ) (kind : LightKind) (node : ℕ) (t : Rated) → IsBounded c t → EachNode (IsNodeBounded c) (parts_of kind node t)
+bounded_parts : (c : Rgb → ℕ) (kind : LightKind) (node : ℕ) (t : LitTree) → IsBounded c t → EachNode (IsNodeBounded c) (parts_of kind node t)
 bounded_parts c kind node (leaf e) h = (h, tt)
 bounded_parts c kind node (fork r a b) h = (h.2, (h.3, tt))
 
@@ -71,7 +71,7 @@ greatest_has (p ∷ ps) h =
     ] refl
 
 -- the children are two, where the key is positive
-parts_two : (kind : LightKind) (node : ℕ) (t : Rated) (ps : List Placed) → 0 < (rate_of t).bound.r + (rate_of t).bound.g + (rate_of t).bound.b → length (parts_of kind node t ++ ps) ≡ length ps + 2
+parts_two : (kind : LightKind) (node : ℕ) (t : LitTree) (ps : List Placed) → 0 < (light_of t).bound.r + (light_of t).bound.g + (light_of t).bound.b → length (parts_of kind node t ++ ps) ≡ length ps + 2
 parts_two kind node (leaf e) ps h = absurd (omega arith)
 parts_two kind node (fork r a b) ps h = omega arith
 
@@ -214,14 +214,14 @@ chosen_stops size permille roots few =
       | inr at ↦ stops_at_size size permille (cut_at roots (least size p)) (omega (arith, len, most, at))
     ]
 
-within_of_stops : (size permille : ℕ) (roots cut : List Placed) → stops size permille cut ≡ true → (length cut ≡ size) ⊎ IsFraction permille (answer_of roots cut)
-within_of_stops size permille roots cut h =
-    elim (length cut == size) as (λ v. length cut == size ≡ v → (v || ((is_within red permille cut && is_within green permille cut) && is_within blue permille cut)) ≡ true → (length cut ≡ size) ⊎ IsFraction permille (answer_of roots cut)) [
+within_of_stops : (size permille : ℕ) (cut : List Placed) → stops size permille cut ≡ true → (length cut ≡ size) ⊎ IsFraction permille (answer_of cut)
+within_of_stops size permille cut h =
+    elim (length cut == size) as (λ v. length cut == size ≡ v → (v || ((is_within red permille cut && is_within green permille cut) && is_within blue permille cut)) ≡ true → (length cut ≡ size) ⊎ IsFraction permille (answer_of cut)) [
       | true ↦ (λ e t. inl (grind (arith, nat_tests)))
       | false ↦ (λ e t. inr (record { red = grind (arith, nat_tests); green = grind (arith, nat_tests); blue = grind (arith, nat_tests) }))
     ] refl h
 
-pub root_few : (kind : LightKind) (o : Option Rated) → length (root_of kind o) ≤ 1
+pub root_few : (kind : LightKind) (o : Option LitTree) → length (root_of kind o) ≤ 1
 root_few kind None = omega arith
 root_few kind (Some t) = omega arith
 
@@ -234,10 +234,14 @@ few_of size trees some = omega (arith, roots_few trees)
 
 pub fraction : (size permille : ℕ) (trees : Trees) → 3 ≤ size → ((answer size permille trees).size ≡ size) ⊎ IsFraction permille (answer size permille trees)
 fraction size permille trees some =
-    within_of_stops size permille (roots_of trees) (chosen size permille (roots_of trees)) (chosen_stops size permille (roots_of trees) (few_of size trees some))
+    within_of_stops size permille (chosen size permille (roots_of trees)) (chosen_stops size permille (roots_of trees) (few_of size trees some))
 
 pub size_most : (size permille : ℕ) (trees : Trees) → 3 ≤ size → (answer size permille trees).size ≤ size
 size_most size permille trees some = chosen_within size permille (roots_of trees) (few_of size trees some)
+
+-- an evaluation for each node
+pub evals_size : (size permille : ℕ) (trees : Trees) → (answer size permille trees).evals ≡ (answer size permille trees).size
+evals_size size permille trees = refl
 
 pub evals_most : (size permille : ℕ) (trees : Trees) → 3 ≤ size → (answer size permille trees).evals ≤ 2 * size
 evals_most size permille trees some = omega (arith, size_most size permille trees some)

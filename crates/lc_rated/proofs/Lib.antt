@@ -3,9 +3,9 @@ pub mod CutSequence
 pub mod CutLimits
 pub mod CutOrder
 pub mod NodeFinding
-pub mod RateSums
+pub mod Permuting
 pub mod NodeSteps
-pub mod Slots
+pub mod Holding
 pub mod Refining
 pub mod Starting
 pub mod Looping

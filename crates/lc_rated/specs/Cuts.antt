@@ -1,30 +1,30 @@
--- The sequence of cuts through rated trees, the chosen cut and its answer.
+-- The sequence of cuts through lit trees, the chosen cut and its answer.
 use Rattle.std.specs.Prelude.{◌≡◌, ℕ, zero, suc, ◌+◌, ◌-◌, ◌*◌, ◌<◌, ◌≤◌, max, ◌==◌, nat_le, ◌&&◌, ◌||◌, ◌⊎◌, Bool, if◌then◌else◌, Option, None, Some, List, [], ◌∷◌, ◌++◌, length, sum_by}
 use Rattle.lc_num.specs.declared.channels.Rgb.{Rgb}
-use Rattle.lc_rated.specs.declared.rate.Rate.{Rate}
+use Rattle.lc_rated.specs.declared.light.NodeLight.{NodeLight}
 use Rattle.lc_rated.specs.declared.answer.Answer.{Answer}
 use Rattle.lc_rated.specs.declared.kind.LightKind.{LightKind}
 use Rattle.lc_rated.specs.declared.kind.LightKind.TheVariants as kind
-use Rattle.lc_rated.specs.Rated.{Rated, leaf, fork, rate_of, leaf_count, full_of, red, green, blue, kind_number, Trees, EachTree, IsLimited, most_of_leaf}
+use Rattle.lc_rated.specs.LitTrees.{LitTree, leaf, fork, light_of, leaf_count, full_of, red, green, blue, kind_number, Trees, EachTree, IsLimited, most_of_leaf}
 
--- a node of a cut: its kind, its number, and the rated tree below it
+-- a node of a cut: its kind, its number, and the lit tree below it
 pub record Placed : Type 0 where
   pub kind : LightKind
   pub node : ℕ
-  pub tree : Rated
+  pub tree : LitTree
 
 -- the sum of the three channels of its bound
 abbrev pub key_of : Placed → ℕ
-key_of p = (rate_of p.tree).bound.r + (rate_of p.tree).bound.g + (rate_of p.tree).bound.b
+key_of p = (light_of p.tree).bound.r + (light_of p.tree).bound.g + (light_of p.tree).bound.b
 
 abbrev pub greatest_key : List Placed → ℕ
 greatest_key [] = 0
 greatest_key (p ∷ ps) = max (key_of p) (greatest_key ps)
 
 -- the two children of a node; a leaf has none, and stays
-abbrev pub parts_of : LightKind → ℕ → Rated → List Placed
+abbrev pub parts_of : LightKind → ℕ → LitTree → List Placed
 parts_of kind node (leaf est) = record { kind = kind; node = node; tree = leaf est } ∷ []
-parts_of kind node (fork rate left right) =
+parts_of kind node (fork light left right) =
     record { kind = kind; node = node + 1; tree = left } ∷ record { kind = kind; node = node + 2 * leaf_count left; tree = right } ∷ []
 
 -- the first node of this key gives way to its children
@@ -36,7 +36,7 @@ replaced key (p ∷ ps) = if key_of p == key then parts_of p.kind p.node p.tree 
 abbrev pub refined : List Placed → List Placed
 refined cut = replaced (greatest_key cut) cut
 
-abbrev pub root_of : LightKind → Option Rated → List Placed
+abbrev pub root_of : LightKind → Option LitTree → List Placed
 root_of kind None = []
 root_of kind (Some tree) = record { kind = kind; node = 0; tree = tree } ∷ []
 
@@ -51,15 +51,15 @@ cut_at roots (suc k) = refined (cut_at roots k)
 
 -- sums over a cut in a channel
 abbrev pub est_sum : (Rgb → ℕ) → List Placed → ℕ
-est_sum c cut = sum_by (λ p. c (rate_of p.tree).est) cut
+est_sum c cut = sum_by (λ p. c (light_of p.tree).est) cut
 
 abbrev pub bound_sum : (Rgb → ℕ) → List Placed → ℕ
-bound_sum c cut = sum_by (λ p. c (rate_of p.tree).bound) cut
+bound_sum c cut = sum_by (λ p. c (light_of p.tree).bound) cut
 
 abbrev pub full_sum : (Rgb → ℕ) → List Placed → ℕ
 full_sum c cut = sum_by (λ p. full_of c p.tree) cut
 
-abbrev pub totals_of : List Placed → Rate
+abbrev pub totals_of : List Placed → NodeLight
 totals_of cut = record {
   est = record { r = est_sum red cut; g = est_sum green cut; b = est_sum blue cut };
   bound = record { r = bound_sum red cut; g = bound_sum green cut; b = bound_sum blue cut };
@@ -86,17 +86,18 @@ refinements size permille roots = least size (λ k. stops size permille (cut_at 
 abbrev pub chosen : ℕ → ℕ → List Placed → List Placed
 chosen size permille roots = cut_at roots (refinements size permille roots)
 
-abbrev pub answer_of : List Placed → List Placed → Answer
-answer_of roots cut = record {
+-- each node's representative was evaluated once, or taken over with its light from the parent
+abbrev pub answer_of : List Placed → Answer
+answer_of cut = record {
   size = length cut;
-  evals = 2 * length cut - length roots;
+  evals = length cut;
   est = (totals_of cut).est;
   bound = (totals_of cut).bound;
 }
 
--- the answer for a greatest size and a permille: each root and each child was evaluated once
+-- the answer for a greatest size and a permille
 abbrev pub answer : ℕ → ℕ → Trees → Answer
-answer size permille trees = answer_of (roots_of trees) (chosen size permille (roots_of trees))
+answer size permille trees = answer_of (chosen size permille (roots_of trees))
 
 -- the estimates of all leaves
 abbrev pub full_light : Trees → Rgb

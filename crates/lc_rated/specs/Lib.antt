@@ -1,4 +1,5 @@
-pub mod Rated
+pub mod LitTrees
 pub mod Cuts
+pub mod Finding
 pub mod Nodes
 pub mod Tables

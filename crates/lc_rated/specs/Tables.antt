@@ -1,15 +1,20 @@
 -- Small trees for the tests, with one number in all channels.
-use Rattle.std.specs.Prelude.{ℕ}
+use Rattle.std.specs.Prelude.{◌≡◌, ℕ, IsSomeAnd}
 use Rattle.lc_num.specs.declared.channels.Rgb.{Rgb}
-use Rattle.lc_rated.specs.declared.rate.Rate.{Rate}
-use Rattle.lc_rated.specs.Rated.{Rated, leaf, fork}
+use Rattle.lc_rated.specs.declared.light.NodeLight.{NodeLight}
+use Rattle.lc_rated.specs.declared.kind.LightKind.{LightKind}
+use Rattle.lc_rated.specs.LitTrees.{LitTree, leaf, fork, light_of, Trees, find}
 
 abbrev pub gray : ℕ → Rgb
 gray n = record { r = n; g = n; b = n }
 
-abbrev pub gray_rate : ℕ → ℕ → Rate
-gray_rate est bound = record { est = gray est; bound = gray bound }
+abbrev pub gray_light : ℕ → ℕ → NodeLight
+gray_light est bound = record { est = gray est; bound = gray bound }
 
 -- a tree of two leaves
-abbrev pub two : ℕ → ℕ → ℕ → ℕ → Rated
-two est bound a b = fork (gray_rate est bound) (leaf (gray a)) (leaf (gray b))
+abbrev pub two : ℕ → ℕ → ℕ → ℕ → LitTree
+two est bound a b = fork (gray_light est bound) (leaf (gray a)) (leaf (gray b))
+
+-- that the estimate is kept of a node that is found
+abbrev pub IsEst : Trees → LightKind → ℕ → ℕ → Type 0
+IsEst trees kind node kept = IsSomeAnd (find trees kind node) (λ t. (light_of t).est ≡ gray kept)

@@ -1,9 +1,9 @@
-// Laws of the sequence of cuts, over rated trees alone. The functions do nothing: each states laws by its contract.
+// Laws of the sequence of cuts, over lit trees alone. The functions do nothing: each states laws by its contract.
 ghost use Rattle.std.specs.Prelude.{◌≡◌, ℕ, ◌+◌, ◌*◌, ◌<◌, ◌≤◌, ◌^◌, ◌⊎◌, List, Some, length, true, false};
 ghost use Rattle.lc_num.specs.declared.channels.Rgb.{Rgb};
 ghost use Rattle.lc_num.specs.Channels.{black};
-ghost use Rattle.lc_rated.specs.declared.rate.Rate.{Rate};
-ghost use Rattle.lc_rated.specs.Rated.{Rated, fork, leaf_count, node_at, Trees, EachTree, IsBounded, IsLimited, AreBounded, most_of_leaf};
+ghost use Rattle.lc_rated.specs.declared.light.NodeLight.{NodeLight};
+ghost use Rattle.lc_rated.specs.LitTrees.{LitTree, fork, leaf_count, node_at, Trees, EachTree, IsBounded, IsLimited, AreBounded, most_of_leaf};
 ghost use Rattle.lc_rated.specs.Cuts.{Placed, AreLimited, IsFraction, IsInOrder, IsNear, answer, apart, bound_sum, chosen, cut_at, est_sum, full_light, full_sum, greatest_key, leaf_sum, refined, refinements, roots_of, stops};
 
 /// The sequence stops: a cut that does not stop has a node of positive key, which is no leaf, and the next cut has one
@@ -19,9 +19,9 @@ pub fn sequence_stops()
 /// Node numbers are preorder: the root has 0, the left child of the node p has p + 1, and its right child has p and
 /// twice the number of leaves of its left child.
 pub fn node_numbers()
-    ensures root { (tree : Rated) → node_at tree 0 ≡ Some tree }
-    ensures left { (tree : Rated) (p : ℕ) (rate : Rate) (left right : Rated) → node_at tree p ≡ Some (fork rate left right) → node_at tree (p + 1) ≡ Some left }
-    ensures right { (tree : Rated) (p : ℕ) (rate : Rate) (left right : Rated) → node_at tree p ≡ Some (fork rate left right) → node_at tree (p + 2 * leaf_count left) ≡ Some right }
+    ensures root { (tree : LitTree) → node_at tree 0 ≡ Some tree }
+    ensures left { (tree : LitTree) (p : ℕ) (light : NodeLight) (left right : LitTree) → node_at tree p ≡ Some (fork light left right) → node_at tree (p + 1) ≡ Some left }
+    ensures right { (tree : LitTree) (p : ℕ) (light : NodeLight) (left right : LitTree) → node_at tree p ≡ Some (fork light left right) → node_at tree (p + 2 * leaf_count left) ≡ Some right }
 {}
 
 /// Each cut is in order of kind and number. So of the nodes of greatest key the one of lowest kind and then of lowest
@@ -42,10 +42,11 @@ pub fn fraction()
     ensures { (size permille : ℕ) (trees : Trees) → 3 ≤ size → ((answer size permille trees).size ≡ size) ⊎ IsFraction permille (answer size permille trees) }
 {}
 
-/// A cut has at most the greatest size, and at most twice as many lights are evaluated.
+/// A cut has at most the greatest size, and a light is evaluated for each of its nodes.
 pub fn counted_evaluations()
     ensures size { (size permille : ℕ) (trees : Trees) → 3 ≤ size → (answer size permille trees).size ≤ size }
     ensures evals { (size permille : ℕ) (trees : Trees) → 3 ≤ size → (answer size permille trees).evals ≤ 2 * size }
+    ensures each { (size permille : ℕ) (trees : Trees) → (answer size permille trees).evals ≡ (answer size permille trees).size }
 {}
 
 /// The sums over any cut and its keys are numbers of 128 bits, with room for a thousand times a sum. A channel is any

@@ -1,4 +1,4 @@
-//! The best-first cut through rated trees of lights, whatever the kinds of light are.
+//! The best-first cut through lit trees, whatever the kinds of light are.
 #![tactic(auto)]
 
 mod answer;
@@ -6,11 +6,12 @@ mod begin;
 mod bench;
 mod kind;
 mod laws;
+mod light;
+mod lighting;
 mod nodes;
-mod rate;
-mod rater;
 mod refine;
 mod run;
+mod slot;
 
 pub use answer::Answer;
 pub use bench::{Bench, best_cut};
@@ -18,8 +19,8 @@ pub use kind::LightKind;
 pub use laws::{
     counted_evaluations, cuts_in_order, distance, fraction, node_numbers, sequence_stops, sizes,
 };
-pub use rate::Rate;
-pub use rater::Rater;
+pub use light::NodeLight;
+pub use lighting::{Found, Lighting, Split};
 
 #[cfg(test)]
 mod tests;

@@ -1,32 +1,52 @@
-// The nodes of a cut in order, with running sums.
-ghost use Rattle.std.specs.Prelude.{◌≡◌, ◌+◌, ◌*◌, ◌/◌, ◌<◌, ◌≤◌, ◌^◌, [], ◌∷◌, ◌++◌, Some, length, take, drop, slice_get, vec_len, vec_capacity};
-ghost use Rattle.std.specs.List.{IsFirstMaxByKey};
+// The nodes of a cut, with running sums.
+ghost use Rattle.std.specs.Prelude.{◌≡◌, ◌+◌, ◌*◌, ◌<◌, ◌≤◌, ◌^◌, [], ◌∷◌, ◌++◌, length, vec_len, vec_capacity, slice_get, option_copied, Contains, IfOk, MatchOption};
 ghost use Rattle.lc_num.specs.Channels.{plus};
-ghost use Rattle.lc_rated.specs.Nodes.{AreFilled, CanMove, HasRoom, IsMoved, IsSmall, mark_key, rate_key, rate_totals, rates_of, sums_stop};
+ghost use Rattle.lc_heap.specs.Order.{IsFirstOf};
+ghost use Rattle.lc_rated.specs.Nodes.{CanMove, IsAdded, IsMoved, IsReplaced, IsSmall, dark, light_key, lights_plus, made_entry, made_slot, place_of, slot_of, sums_stop};
 
-use crate::kind::LightKind;
-use crate::rate::Rate;
-use lc_num::Rgb;
+use crate::kind::{LightKind, number_of};
+use crate::light::NodeLight;
+use crate::lighting::Found;
+use crate::slot::Slot;
+use lc_heap::{Entry, Heap};
+use lc_num::{Memory, Rgb, Steps};
+use std::alloc::Global;
+use std::marker::Model;
+use std::sync::ledger::Ledger;
 
-pub const BLACK: Rgb = Rgb { r: 0, g: 0, b: 0 };
+/// The numbers of all nodes of a tree of 65,536 leaves are below this.
+const NODES: usize = 131_072;
 
-/// A node with its key, the sum of the channels of its bound.
-#[derive(Clone, Copy, Debug, PartialEq, Eq)]
-pub struct Mark {
-    pub key: u128,
-    pub node: u32,
-    pub kind: LightKind,
+const BLACK: Rgb = Rgb { r: 0, g: 0, b: 0 };
+
+const DARK: NodeLight = NodeLight {
+    est: BLACK,
+    bound: BLACK,
+};
+
+/// The nodes of a cut, of which the one of greatest key comes first, in memory that is taken beforehand.
+#[derive(Drop)]
+pub struct Nodes<K: Copy> {
+    heap: Heap,
+    /// For each number of a node and each kind the number of the node's slot.
+    places: Vec<u32>,
+    /// A slot for each node of the cut.
+    slots: Vec<Slot<K>>,
+    sums: NodeLight,
+    room: u32,
 }
 
-/// The nodes of a cut in order of kind and number, so that the search for the greatest key reads the marks alone.
-#[derive(Drop)]
-pub struct Nodes {
-    pub marks: Vec<Mark>,
-    /// Beside each mark the place of its node's rate.
-    pub slots: Vec<usize>,
-    /// The rates in the order in which they came, so that none has to make room for others.
-    pub rates: Vec<Rate>,
-    pub sums: Rate,
+impl<K: Copy> Model for Nodes<K> {
+    ghost use Rattle.std.specs.Prelude.{◌≡◌, ◌≤◌, length, vec_capacity};
+    ghost use Rattle.lc_rated.specs.Nodes.{NodesParts, coded_parts};
+
+    ghost Value = { NodesParts K };
+
+    ghost coded = { coded_parts K.code };
+
+    ghost view = { λ n. record { entries = n.heap.entries; places = n.places.items; slots = n.slots.items; sums = n.sums; room = n.room } };
+
+    ghost invariant = { λ n. (length n.places.items ≡ 393216) × (length n.slots.items ≡ length n.heap.entries) × (n.heap.room ≡ n.room) × (n.room ≤ vec_capacity n.slots) };
 }
 
 fn plus(a: Rgb, b: Rgb) -> Rgb
@@ -42,27 +62,8 @@ fn plus(a: Rgb, b: Rgb) -> Rgb
     }
 }
 
-/// The sums of the estimates and of the bounds.
-#[tactic(auto, using(std::proofs::lemmas::List::Sums::sum_by_more_le, crate::proofs::RateSums::totals_more))]
-pub fn totals(rates: &[Rate]) -> Rate
-    requires { IsSmall (rate_totals rates.now) }
-    ensures { result ≡ rate_totals rates.now }
-{
-    let mut sums = Rate {
-        est: BLACK,
-        bound: BLACK,
-    };
-    for rate in rates {
-        sums = Rate {
-            est: plus(sums.est, rate.est),
-            bound: plus(sums.bound, rate.bound),
-        };
-    }
-    sums
-}
-
 /// The sum where one part gives way to two. The part goes first, so that no number is above the sums of a cut.
-pub fn moved(sum: Rgb, old: Rgb, left: Rgb, right: Rgb) -> Rgb
+fn moved(sum: Rgb, old: Rgb, left: Rgb, right: Rgb) -> Rgb
     requires { CanMove sum old left right }
     ensures { IsMoved sum old left right result }
 {
@@ -73,45 +74,37 @@ pub fn moved(sum: Rgb, old: Rgb, left: Rgb, right: Rgb) -> Rgb
     }
 }
 
-/// The key of a node that has this.
-pub fn key(rate: Rate) -> u128
-    requires { rate_key rate < 2 ^ 128 }
-    ensures { result ≡ rate_key rate }
+/// The entry of a node that was found. Its key is the sum of the channels of its bound.
+fn entry<K: Copy>(kind: LightKind, found: Found<K>) -> Entry
+    requires { light_key found.light < 2 ^ 128 }
+    ensures { result ≡ made_entry kind found.node found.light }
 {
-    rate.bound.r + rate.bound.g + rate.bound.b
-}
-
-/// The upper half of a key.
-fn upper(key: u128) -> u64
-    ensures { result ≡ key / 2 ^ 64 }
-{
-    (key >> 64) as u64
-}
-
-/// The place of the first mark of greatest key. Nearly all keys are passed over by their upper halves alone.
-pub fn greatest(marks: &[Mark]) -> usize
-    requires { 0 < length marks.now }
-    ensures { IsFirstMaxByKey mark_key marks.now (length marks.now) result }
-{
-    let mut best = 0;
-    let mut most = marks[0].key;
-    let mut high = upper(most);
-    for i in 1..marks.len() {
-        let key = marks[i].key;
-        if upper(key) < high {
-            continue;
-        }
-        if most < key {
-            best = i;
-            most = key;
-            high = upper(key);
-        }
+    let bound = found.light.bound;
+    Entry {
+        key: bound.r + bound.g + bound.b,
+        kind: number_of(kind),
+        node: found.node,
     }
-    best
+}
+
+fn slot_for<K: Copy>(found: Found<K>) -> Slot<K>
+    ensures { result ≡ made_slot found }
+{
+    Slot {
+        kept: found.kept,
+        bound: found.light.bound,
+    }
+}
+
+/// Where the number of the slot of a node stands.
+fn place(kind: LightKind, node: u32) -> usize
+    ensures { result ≡ place_of kind node }
+{
+    3 * node as usize + number_of(kind) as usize
 }
 
 /// Puts an item at the end, where there is room for it.
-pub fn put<T: Copy>(items: &mut Vec<T>, item: T)
+fn push<T: Copy>(items: &mut Vec<T>, item: T)
     requires { vec_len items.old < vec_capacity items.old }
     ensures items { items.new.items ≡ items.old.items ++ item ∷ [] }
     ensures room { vec_capacity items.old ≤ vec_capacity items.new }
@@ -119,83 +112,135 @@ pub fn put<T: Copy>(items: &mut Vec<T>, item: T)
     let _ = items.push(item);
 }
 
-/// Puts two items in the place of one.
-pub fn split<T: Copy>(items: &mut Vec<T>, at: usize, left: T, right: T)
-    requires at { at < vec_len items.old }
-    requires room { vec_len items.old < vec_capacity items.old }
-    ensures items { items.new.items ≡ take at items.old.items ++ (left ∷ right ∷ drop (at + 1) items.old.items) }
-    ensures room { vec_capacity items.old ≤ vec_capacity items.new }
-{
-    items[at] = left;
-    let _ = items.insert(at + 1, right);
-}
+impl<K: Copy> Nodes<K> {
+    /// Room for so many nodes.
+    pub fn with_room(alloc: Global, room: u32) -> Result<Nodes<K>, Memory>
+        ensures { IfOk result (λ nodes. nodes.room ≡ room) }
+    {
+        let heap = Heap::with_room(alloc, room)?;
+        let places = vec![in alloc; 0; 3 * NODES]?;
+        let slots = Vec::with_capacity(alloc, room as usize)?;
+        Ok(Nodes {
+            heap,
+            places,
+            slots,
+            sums: DARK,
+            room,
+        })
+    }
 
-/// Whether a cut of these nodes stops.
-pub fn is_done(nodes: &Nodes, size: u32, permille: u32) -> bool
-    requires small { IsSmall nodes.now.sums }
-    requires permille { permille ≤ 1000 }
-    ensures { result ≡ sums_stop size permille (length nodes.now.marks.items) nodes.now.sums }
-{
-    let Rate { est, bound } = nodes.sums;
-    let permille = permille as u128;
-    nodes.marks.len() == size as usize
-        || (1000 * bound.r <= permille * est.r
-            && 1000 * bound.g <= permille * est.g
-            && 1000 * bound.b <= permille * est.b)
-}
+    /// How many nodes there are.
+    pub fn len(&self) -> u32
+        ensures count { result ≡ length self.now.entries }
+        ensures within { result ≤ self.now.room }
+    {
+        let _room = self.room;
+        self.heap.len() as u32
+    }
 
-/// The rate of the node at a place.
-fn rate_beside(nodes: &Nodes, at: usize) -> Rate
-    requires at { at < length nodes.now.slots.items }
-    requires filled { AreFilled nodes.now.rates.items nodes.now.slots.items }
-    ensures { slice_get (rates_of nodes.now) at ≡ Some result }
-{
-    nodes.rates[nodes.slots[at]]
-}
+    /// The sums over the nodes.
+    pub fn sums(&self) -> NodeLight
+        ensures { result ≡ self.now.sums }
+    {
+        self.sums
+    }
 
-/// Puts the rates of two nodes in the place of one.
-fn replace_rate(nodes: &mut Nodes, at: usize, rates: (Rate, Rate))
-    requires at { at < length nodes.old.slots.items }
-    requires filled { AreFilled nodes.old.rates.items nodes.old.slots.items }
-    requires slots_room { vec_len nodes.old.slots < vec_capacity nodes.old.slots }
-    requires rates_room { vec_len nodes.old.rates + 2 ≤ vec_capacity nodes.old.rates }
-    ensures filled { AreFilled nodes.new.rates.items nodes.new.slots.items }
-    ensures rates { rates_of nodes.new ≡ take at (rates_of nodes.old) ++ (rates.0 ∷ rates.1 ∷ drop (at + 1) (rates_of nodes.old)) }
-    ensures more { length nodes.new.rates.items ≡ length nodes.old.rates.items + 2 }
-    ensures marks { nodes.new.marks ≡ nodes.old.marks }
-    ensures sums { nodes.new.sums ≡ nodes.old.sums }
-    ensures slots_room { vec_capacity nodes.old.slots ≤ vec_capacity nodes.new.slots }
-    ensures rates_room { vec_capacity nodes.old.rates ≤ vec_capacity nodes.new.rates }
-{
-    let slot = nodes.rates.len();
-    put(&mut nodes.rates, rates.0);
-    put(&mut nodes.rates, rates.1);
-    split(&mut nodes.slots, at, slot, slot + 1);
-}
+    /// The node that comes before all others.
+    pub fn first(&self) -> Option<Entry>
+        ensures { MatchOption result (self.now.entries ≡ []) (λ e. Contains self.now.entries e × IsFirstOf self.now.entries e) }
+    {
+        self.heap.first()
+    }
 
-/// Puts two nodes in the place of one.
-pub fn replace(nodes: &mut Nodes, at: usize, marks: (Mark, Mark), rates: (Rate, Rate))
-    requires marks_at { at < length nodes.old.marks.items }
-    requires slots_at { at < length nodes.old.slots.items }
-    requires filled { AreFilled nodes.old.rates.items nodes.old.slots.items }
-    requires room { HasRoom (length nodes.old.marks.items + 1) nodes.old }
-    requires beside { length nodes.old.slots.items ≡ length nodes.old.marks.items }
-    requires rated { length nodes.old.rates.items ≤ 2 * length nodes.old.marks.items }
-    requires est { (old : _) → slice_get (rates_of nodes.old) at ≡ Some old → CanMove nodes.old.sums.est old.est rates.0.est rates.1.est }
-    requires bound { (old : _) → slice_get (rates_of nodes.old) at ≡ Some old → CanMove nodes.old.sums.bound old.bound rates.0.bound rates.1.bound }
-    ensures marks { nodes.new.marks.items ≡ take at nodes.old.marks.items ++ (marks.0 ∷ marks.1 ∷ drop (at + 1) nodes.old.marks.items) }
-    ensures filled { AreFilled nodes.new.rates.items nodes.new.slots.items }
-    ensures rates { rates_of nodes.new ≡ take at (rates_of nodes.old) ++ (rates.0 ∷ rates.1 ∷ drop (at + 1) (rates_of nodes.old)) }
-    ensures more { length nodes.new.rates.items ≡ length nodes.old.rates.items + 2 }
-    ensures est { (old : _) → slice_get (rates_of nodes.old) at ≡ Some old → IsMoved nodes.old.sums.est old.est rates.0.est rates.1.est nodes.new.sums.est }
-    ensures bound { (old : _) → slice_get (rates_of nodes.old) at ≡ Some old → IsMoved nodes.old.sums.bound old.bound rates.0.bound rates.1.bound nodes.new.sums.bound }
-    ensures room { (n : _) → HasRoom n nodes.old → HasRoom n nodes.new }
-{
-    let old = rate_beside(nodes, at);
-    nodes.sums = Rate {
-        est: moved(nodes.sums.est, old.est, rates.0.est, rates.1.est),
-        bound: moved(nodes.sums.bound, old.bound, rates.0.bound, rates.1.bound),
-    };
-    split(&mut nodes.marks, at, marks.0, marks.1);
-    replace_rate(nodes, at, rates);
+    /// The number of the slot of a node.
+    pub fn slot(&self, kind: LightKind, node: u32) -> Option<u32>
+        ensures { result ≡ slot_of self.now kind node }
+    {
+        self.places.get(place(kind, node)).copied()
+    }
+
+    /// What a slot keeps.
+    pub fn kept(&self, slot: u32) -> Option<Slot<K>>
+        ensures { result ≡ slice_get self.now.slots slot }
+    {
+        self.slots.get(slot as usize).copied()
+    }
+
+    /// Lets all nodes go.
+    pub fn clear(&mut self)
+        ensures { self.new ≡ record { entries = []; places = self.old.places; slots = []; sums = dark; room = self.old.room } }
+    {
+        self.heap.clear();
+        self.slots.clear();
+        self.sums = DARK;
+    }
+
+    /// Adds a node.
+    pub fn add<M: Ledger>(&mut self, kind: LightKind, found: Found<K>, comparisons: &mut Steps<M>)
+        requires room { length self.old.entries < self.old.room }
+        requires node { found.node < 131072 }
+        requires key { light_key found.light < 2 ^ 128 }
+        requires small { IsSmall (lights_plus self.old.sums found.light) }
+        ensures { IsAdded kind found self.old self.new }
+    {
+        self.sums = NodeLight {
+            est: plus(self.sums.est, found.light.est),
+            bound: plus(self.sums.bound, found.light.bound),
+        };
+        self.places[place(kind, found.node)] = self.heap.len() as u32;
+        push(&mut self.slots, slot_for(found));
+        self.heap.put(entry(kind, found), comparisons);
+    }
+
+    /// Puts two nodes in the place of the first, which has this slot and this light.
+    pub fn replace<M: Ledger>(
+        &mut self,
+        kind: LightKind,
+        slot: u32,
+        light: NodeLight,
+        left: Found<K>,
+        right: Found<K>,
+        comparisons: &mut Steps<M>,
+    )
+        requires some { 0 < length self.old.entries }
+        requires room { length self.old.entries < self.old.room }
+        requires slot { slot < length self.old.slots }
+        requires left { left.node < 131072 }
+        requires right { right.node < 131072 }
+        requires left_key { light_key left.light < 2 ^ 128 }
+        requires right_key { light_key right.light < 2 ^ 128 }
+        requires est { CanMove self.old.sums.est light.est left.light.est right.light.est }
+        requires bound { CanMove self.old.sums.bound light.bound left.light.bound right.light.bound }
+        ensures { IsReplaced kind slot light left right self.old self.new }
+    {
+        self.sums = NodeLight {
+            est: moved(self.sums.est, light.est, left.light.est, right.light.est),
+            bound: moved(
+                self.sums.bound,
+                light.bound,
+                left.light.bound,
+                right.light.bound,
+            ),
+        };
+        self.places[place(kind, left.node)] = slot;
+        self.places[place(kind, right.node)] = self.heap.len() as u32;
+        self.slots[slot as usize] = slot_for(left);
+        push(&mut self.slots, slot_for(right));
+        self.heap.exchange(entry(kind, left), comparisons);
+        self.heap.put(entry(kind, right), comparisons);
+    }
+
+    /// Whether a cut of these nodes stops.
+    pub fn is_done(&self, size: u32, permille: u32) -> bool
+        requires small { IsSmall self.now.sums }
+        requires permille { permille ≤ 1000 }
+        ensures { result ≡ sums_stop size permille (length self.now.entries) self.now.sums }
+    {
+        let NodeLight { est, bound } = self.sums;
+        let permille = permille as u128;
+        self.heap.len() == size as usize
+            || (1000 * bound.r <= permille * est.r
+                && 1000 * bound.g <= permille * est.g
+                && 1000 * bound.b <= permille * est.b)
+    }
 }

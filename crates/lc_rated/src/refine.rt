@@ -1,52 +1,47 @@
 // One step of the sequence of cuts.
-ghost use Rattle.std.specs.Prelude.{◌≡◌, ◌+◌, ◌<◌, Some, length, slice_get};
-ghost use Rattle.std.specs.List.{IsFirstMaxByKey};
+ghost use Rattle.std.specs.Prelude.{◌≡◌, ◌+◌, ◌<◌, length};
 ghost use Rattle.lc_rated.specs.Cuts.{roots_of, greatest_key, AreLimited};
-ghost use Rattle.lc_rated.specs.Nodes.{cut_now, mark_key, HasRoom, IsCutOf};
+ghost use Rattle.lc_rated.specs.Nodes.{cut_now, IsCutOf};
 
-use crate::nodes::{Mark, Nodes, greatest, key, replace};
-use crate::rater::Rater;
+use crate::kind::kind_of;
+use crate::light::NodeLight;
+use crate::lighting::Lighting;
+use crate::nodes::Nodes;
 use lc_num::Steps;
 use std::sync::ledger::Ledger;
 
-/// The place of the first node of greatest key, and the node.
-fn leading(nodes: &Nodes) -> (usize, Mark)
-    requires { 0 < length nodes.now.marks.items }
-    ensures first { IsFirstMaxByKey mark_key nodes.now.marks.items (length nodes.now.marks.items) result.0 }
-    ensures here { slice_get nodes.now.marks.items result.0 ≡ Some result.1 }
-{
-    let at = greatest(&nodes.marks);
-    (at, nodes.marks[at])
-}
-
 /// Puts the children of the first node of greatest key in its place.
-pub fn refine<R: Rater, L: Ledger>(nodes: &mut Nodes, rater: &mut R, steps: &mut Steps<L>)
-    requires limited { AreLimited (R.trees rater.old) }
-    requires cut { IsCutOf (roots_of (R.trees rater.old)) nodes.old }
-    requires some { 0 < greatest_key (cut_now (roots_of (R.trees rater.old)) nodes.old) }
-    requires room { HasRoom (length nodes.old.marks.items + 1) nodes.old }
-    ensures trees { R.trees rater.new ≡ R.trees rater.old }
-    ensures cut { IsCutOf (roots_of (R.trees rater.old)) nodes.new }
-    ensures more { length nodes.new.marks.items ≡ length nodes.old.marks.items + 1 }
-    ensures room { (n : _) → HasRoom n nodes.old → HasRoom n nodes.new }
-    ensures steps { steps.new ≡ steps.old + 2 }
+pub fn refine<T: Lighting, L: Ledger, M: Ledger>(
+    nodes: &mut Nodes<T::Kept>,
+    lighting: &T,
+    steps: &mut Steps<L>,
+    comparisons: &mut Steps<M>,
+)
+    requires limited { AreLimited (T.trees lighting.now) }
+    requires cut { IsCutOf (T.keeps lighting.now) (roots_of (T.trees lighting.now)) nodes.old }
+    requires some { 0 < greatest_key (cut_now (roots_of (T.trees lighting.now)) nodes.old) }
+    requires room { length nodes.old.entries < nodes.old.room }
+    ensures cut { IsCutOf (T.keeps lighting.now) (roots_of (T.trees lighting.now)) nodes.new }
+    ensures more { length nodes.new.entries ≡ length nodes.old.entries + 1 }
+    ensures room { nodes.new.room ≡ nodes.old.room }
+    ensures steps { steps.new ≡ steps.old + 1 }
 {
-    let (at, Mark { kind, node, .. }) = leading(nodes);
-    if let Some((left, right)) = rater.kids(kind, node) {
-        let first = rater.rate(kind, left, steps);
-        let second = rater.rate(kind, right, steps);
-        let marks = (
-            Mark {
-                key: key(first),
-                node: left,
-                kind,
-            },
-            Mark {
-                key: key(second),
-                node: right,
-                kind,
-            },
-        );
-        replace(nodes, at, marks, (first, second));
-    }
+    let Some(first) = nodes.first() else {
+        unreachable!();
+    };
+    let kind = kind_of(first.kind);
+    let Some(slot) = nodes.slot(kind, first.node) else {
+        unreachable!();
+    };
+    let Some(held) = nodes.kept(slot) else {
+        unreachable!();
+    };
+    let Some(split) = lighting.split(kind, first.node, held.kept, steps) else {
+        unreachable!();
+    };
+    let light = NodeLight {
+        est: split.est,
+        bound: held.bound,
+    };
+    nodes.replace(kind, slot, light, split.left, split.right, comparisons);
 }

@@ -1,56 +1,56 @@
 // From the first cut to the one that stops.
-ghost use Rattle.std.specs.Prelude.{◌≡◌, ◌+◌, ◌*◌, ◌≤◌, length};
-ghost use Rattle.lc_rated.specs.Cuts.{answer, AreLimited};
-ghost use Rattle.lc_rated.specs.Nodes.{HasRoom};
+ghost use Rattle.std.specs.Prelude.{◌≡◌, ◌+◌, ◌<◌, ◌≤◌, length};
+ghost use Rattle.lc_rated.specs.Cuts.{answer, answer_of, AreLimited};
 
 use crate::answer::Answer;
 use crate::begin::begin;
-use crate::nodes::{Nodes, is_done};
-use crate::rater::Rater;
+use crate::lighting::Lighting;
+use crate::nodes::Nodes;
 use crate::refine::refine;
 use lc_num::Steps;
-use std::sync::ledger::Ledger;
+use std::sync::ledger::{Blank, Ledger};
 
-/// What is answered of the nodes of a cut that has come from so many roots.
-fn answer_at(nodes: &Nodes, roots: usize) -> Answer
-    requires roots { roots ≤ length nodes.now.marks.items }
-    requires most { length nodes.now.marks.items ≤ 65536 }
-    ensures size { result.size ≡ length nodes.now.marks.items }
-    ensures evals { result.evals + roots ≡ 2 * length nodes.now.marks.items }
+/// What is answered of the nodes of a cut.
+fn answer_at<K: Copy>(nodes: &Nodes<K>) -> Answer
+    ensures size { result.size ≡ length nodes.now.entries }
+    ensures evals { result.evals ≡ length nodes.now.entries }
     ensures est { result.est ≡ nodes.now.sums.est }
     ensures bound { result.bound ≡ nodes.now.sums.bound }
 {
-    let size = nodes.marks.len();
+    let size = nodes.len();
+    let sums = nodes.sums();
     Answer {
-        size: size as u32,
-        evals: (2 * size - roots) as u32,
-        est: nodes.sums.est,
-        bound: nodes.sums.bound,
+        size,
+        evals: size,
+        est: sums.est,
+        bound: sums.bound,
     }
 }
 
-/// Refines until a cut stops.
-pub fn run<R: Rater, L: Ledger>(
-    nodes: &mut Nodes,
-    rater: &mut R,
+/// Refines until a cut stops. The blank is for the ledger of the heap's comparisons.
+pub fn run<T: Lighting, L: Ledger, M: Ledger>(
+    nodes: &mut Nodes<T::Kept>,
+    lighting: &T,
     size: u32,
     permille: u32,
     steps: &mut Steps<L>,
+    blank: Blank,
 ) -> Answer
-    requires limited { AreLimited (R.trees rater.old) }
+    requires limited { AreLimited (T.trees lighting.now) }
     requires permille { permille ≤ 1000 }
     requires least { 3 ≤ size }
-    requires most { size ≤ 65536 }
-    requires room { HasRoom size nodes.old }
-    ensures value { result ≡ answer size permille (R.trees rater.old) }
-    ensures trees { R.trees rater.new ≡ R.trees rater.old }
+    requires room { nodes.old.room ≡ size }
+    requires name { blank.name ≡ M.name }
+    requires parts { blank.parts ≡ M.parts }
+    requires some { 0 < M.parts }
+    ensures value { result ≡ answer size permille (T.trees lighting.now) }
     ensures steps { steps.new ≡ steps.old + result.evals }
-    ensures room { HasRoom size nodes.new }
+    ensures room { nodes.new.room ≡ nodes.old.room }
 {
-    begin(nodes, rater, steps);
-    let roots = nodes.marks.len();
-    while !is_done(nodes, size, permille) {
-        refine(nodes, rater, steps);
+    let mut comparisons = Steps::<M>::start(blank);
+    begin(nodes, lighting, steps, &mut comparisons);
+    while !nodes.is_done(size, permille) {
+        refine(nodes, lighting, steps, &mut comparisons);
     }
-    answer_at(nodes, roots)
+    answer_at(nodes)
 }

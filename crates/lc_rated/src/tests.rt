@@ -1,6 +1,6 @@
 // Cuts worked out by hand, over small trees with one number in all channels.
 ghost use Rattle.std.specs.Prelude.{◌≡◌, ◌<◌, ◌≤◌};
-ghost use Rattle.lc_rated.specs.Tables.{gray, gray_rate};
+ghost use Rattle.lc_rated.specs.Tables.{gray, gray_light};
 
 use super::*;
 use lc_num::{Memory, Rgb, Steps};
@@ -23,19 +23,41 @@ struct Node {
     bound: u16,
 }
 
-fn rate_of(node: Node) -> Rate
-    ensures { result ≡ gray_rate node.est node.bound }
+fn light_of(node: Node) -> NodeLight
+    ensures { result ≡ gray_light node.est node.bound }
 {
-    Rate {
+    NodeLight {
         est: gray(node.est),
         bound: gray(node.bound),
     }
 }
 
-fn leaf(est: u16) -> Rate
-    ensures { result ≡ gray_rate est 0 }
+/// What is found of an inner node, of which the estimate is kept.
+fn inner(number: u32, node: Node) -> Found<u16>
+    ensures { result ≡ record { node = number; light = gray_light node.est node.bound; kept = node.est } }
 {
-    rate_of(Node { est, bound: 0 })
+    Found {
+        node: number,
+        light: light_of(node),
+        kept: node.est,
+    }
+}
+
+/// What is found of a leaf.
+fn leaf(number: u32, est: u16) -> Found<u16>
+    ensures { result ≡ record { node = number; light = gray_light est 0; kept = est } }
+{
+    inner(number, Node { est, bound: 0 })
+}
+
+fn split(kept: u16, left: Found<u16>, right: Found<u16>) -> Split<u16>
+    ensures { result ≡ record { est = gray kept; left = left; right = right } }
+{
+    Split {
+        est: gray(kept),
+        left,
+        right,
+    }
 }
 
 /// A tree of two omni lights.
@@ -46,33 +68,40 @@ struct Pair {
     right: u16,
 }
 
-impl Rater for Pair {
+impl Lighting for Pair {
     ghost use Rattle.std.specs.Prelude.{None, Some};
-    ghost use Rattle.lc_rated.specs.Tables.{two};
+    ghost use Rattle.lc_rated.specs.Tables.{IsEst, two};
+
+    type Kept = u16;
 
     ghost trees = { λ p. record { omni = Some (two p.root.est p.root.bound p.left p.right); oriented = None; sun = None } };
 
-    fn has(&self, kind: LightKind) -> bool {
+    ghost keeps = { λ p. IsEst (record { omni = Some (two p.root.est p.root.bound p.left p.right); oriented = None; sun = None }) };
+
+    fn root<L: Ledger>(&self, kind: LightKind, steps: &mut Steps<L>) -> Option<Found<u16>> {
         match kind {
-            LightKind::Omni => true,
-            LightKind::Oriented => false,
-            LightKind::Sun => false,
+            LightKind::Omni => {
+                steps.tick();
+                Some(inner(0, self.root))
+            }
+            LightKind::Oriented => None,
+            LightKind::Sun => None,
         }
     }
 
-    fn kids(&self, _kind: LightKind, node: u32) -> Option<(u32, u32)> {
+    fn split<L: Ledger>(
+        &self,
+        _kind: LightKind,
+        node: u32,
+        kept: u16,
+        steps: &mut Steps<L>,
+    ) -> Option<Split<u16>> {
         match node {
-            0 => Some((1, 2)),
+            0 => {
+                steps.tick();
+                Some(split(kept, leaf(1, self.left), leaf(2, self.right)))
+            }
             _ => None,
-        }
-    }
-
-    fn rate<L: Ledger>(&mut self, _kind: LightKind, node: u32, steps: &mut Steps<L>) -> Rate {
-        steps.tick();
-        match node {
-            0 => rate_of(self.root),
-            1 => leaf(self.left),
-            _ => leaf(self.right),
         }
     }
 }
@@ -89,58 +118,70 @@ struct Lamps {
     right: u16,
 }
 
-impl Rater for Lamps {
+impl Lighting for Lamps {
     ghost use Rattle.std.specs.Prelude.{None, Some, slice_index};
-    ghost use Rattle.lc_rated.specs.Rated.{fork};
-    ghost use Rattle.lc_rated.specs.Tables.{gray_rate, two};
+    ghost use Rattle.lc_rated.specs.LitTrees.{fork};
+    ghost use Rattle.lc_rated.specs.Tables.{gray_light, IsEst, two};
+
+    type Kept = u16;
 
     ghost trees = { λ t. record {
-      omni = Some (fork (gray_rate t.top.est t.top.bound) (two t.west.est t.west.bound (slice_index t.leaves 0) (slice_index t.leaves 1)) (two t.east.est t.east.bound (slice_index t.leaves 2) (slice_index t.leaves 3)));
+      omni = Some (fork (gray_light t.top.est t.top.bound) (two t.west.est t.west.bound (slice_index t.leaves 0) (slice_index t.leaves 1)) (two t.east.est t.east.bound (slice_index t.leaves 2) (slice_index t.leaves 3)));
       oriented = Some (two t.sign.est t.sign.bound t.left t.right);
       sun = None;
     } };
 
-    fn has(&self, kind: LightKind) -> bool {
-        match kind {
-            LightKind::Omni => true,
-            LightKind::Oriented => true,
-            LightKind::Sun => false,
-        }
-    }
+    ghost keeps = { λ t. IsEst (record {
+      omni = Some (fork (gray_light t.top.est t.top.bound) (two t.west.est t.west.bound (slice_index t.leaves 0) (slice_index t.leaves 1)) (two t.east.est t.east.bound (slice_index t.leaves 2) (slice_index t.leaves 3)));
+      oriented = Some (two t.sign.est t.sign.bound t.left t.right);
+      sun = None;
+    }) };
 
-    fn kids(&self, kind: LightKind, node: u32) -> Option<(u32, u32)> {
+    fn root<L: Ledger>(&self, kind: LightKind, steps: &mut Steps<L>) -> Option<Found<u16>> {
         match kind {
-            LightKind::Omni => match node {
-                0 => Some((1, 4)),
-                1 => Some((2, 3)),
-                4 => Some((5, 6)),
-                _ => None,
-            },
-            LightKind::Oriented => match node {
-                0 => Some((1, 2)),
-                _ => None,
-            },
+            LightKind::Omni => {
+                steps.tick();
+                Some(inner(0, self.top))
+            }
+            LightKind::Oriented => {
+                steps.tick();
+                Some(inner(0, self.sign))
+            }
             LightKind::Sun => None,
         }
     }
 
-    fn rate<L: Ledger>(&mut self, kind: LightKind, node: u32, steps: &mut Steps<L>) -> Rate {
-        steps.tick();
+    fn split<L: Ledger>(
+        &self,
+        kind: LightKind,
+        node: u32,
+        kept: u16,
+        steps: &mut Steps<L>,
+    ) -> Option<Split<u16>> {
         match kind {
             LightKind::Omni => match node {
-                0 => rate_of(self.top),
-                1 => rate_of(self.west),
-                2 => leaf(self.leaves[0]),
-                3 => leaf(self.leaves[1]),
-                4 => rate_of(self.east),
-                5 => leaf(self.leaves[2]),
-                _ => leaf(self.leaves[3]),
+                0 => {
+                    steps.tick();
+                    Some(split(kept, inner(1, self.west), inner(4, self.east)))
+                }
+                1 => {
+                    steps.tick();
+                    Some(split(kept, leaf(2, self.leaves[0]), leaf(3, self.leaves[1])))
+                }
+                4 => {
+                    steps.tick();
+                    Some(split(kept, leaf(5, self.leaves[2]), leaf(6, self.leaves[3])))
+                }
+                _ => None,
             },
-            _ => match node {
-                0 => rate_of(self.sign),
-                1 => leaf(self.left),
-                _ => leaf(self.right),
+            LightKind::Oriented => match node {
+                0 => {
+                    steps.tick();
+                    Some(split(kept, leaf(1, self.left), leaf(2, self.right)))
+                }
+                _ => None,
             },
+            LightKind::Sun => None,
         }
     }
 }
@@ -157,13 +198,13 @@ fn best_of_pair<L: Ledger>(alloc: Global, blank: Blank) -> Result<(Answer, Answe
         est: 200,
         bound: 200,
     };
-    let mut pair = Pair {
+    let pair = Pair {
         root,
         left: 100,
         right: 100,
     };
-    let low = best_cut(&mut bench, &mut pair, 4, 20, &mut steps);
-    let high = best_cut(&mut bench, &mut pair, 4, 1000, &mut steps);
+    let low = best_cut(&mut bench, &pair, 4, 20, &mut steps);
+    let high = best_cut(&mut bench, &pair, 4, 1000, &mut steps);
     Ok((low, high))
 }
 
@@ -175,7 +216,7 @@ fn two_equal_lights(rt: HostRuntime) -> Result<(), Fail> {
         low,
         Answer {
             size: 2,
-            evals: 3,
+            evals: 2,
             est: gray(200),
             bound: gray(0)
         }
@@ -200,11 +241,10 @@ fn best_of_lamps<L: Ledger>(alloc: Global, blank: Blank, size: u32) -> Result<An
     requires parts { blank.parts ≡ L.parts }
     requires some { 0 < L.parts }
     requires least { 3 ≤ size }
-    requires most { size ≤ 65536 }
 {
     let mut steps = Steps::<L>::start(blank);
     let mut bench = Bench::new(alloc, size)?;
-    let mut lamps = Lamps {
+    let lamps = Lamps {
         top: Node { est: 43, bound: 40 },
         west: Node { est: 21, bound: 20 },
         east: Node { est: 22, bound: 20 },
@@ -213,7 +253,7 @@ fn best_of_lamps<L: Ledger>(alloc: Global, blank: Blank, size: u32) -> Result<An
         left: 7,
         right: 13,
     };
-    Ok(best_cut(&mut bench, &mut lamps, size, 0, &mut steps))
+    Ok(best_cut(&mut bench, &lamps, size, 0, &mut steps))
 }
 
 #[test]
@@ -224,7 +264,7 @@ fn ties(rt: HostRuntime) -> Result<(), Fail> {
         three,
         Answer {
             size: 3,
-            evals: 4,
+            evals: 3,
             est: gray(67),
             bound: gray(60)
         }
@@ -235,7 +275,7 @@ fn ties(rt: HostRuntime) -> Result<(), Fail> {
         four,
         Answer {
             size: 4,
-            evals: 6,
+            evals: 4,
             est: gray(66),
             bound: gray(40)
         }
@@ -246,7 +286,7 @@ fn ties(rt: HostRuntime) -> Result<(), Fail> {
         five,
         Answer {
             size: 5,
-            evals: 8,
+            evals: 5,
             est: gray(64),
             bound: gray(20)
         }
@@ -257,7 +297,7 @@ fn ties(rt: HostRuntime) -> Result<(), Fail> {
         most,
         Answer {
             size: 6,
-            evals: 10,
+            evals: 6,
             est: gray(60),
             bound: gray(0)
         }

@@ -126,6 +126,14 @@ pub sample_evals : (size permille : ℕ) (scene : SceneParts) (ray : Ray) → 3 
 unfolding sample_of
 sample_evals size permille scene ray = evals_at size permille scene (spot_seen scene ray)
 
+each_at : (size permille : ℕ) (scene : SceneParts) (o : Option Spot) → (answer_at size permille scene o).evals ≡ (answer_at size permille scene o).size
+each_at size permille scene None = refl
+each_at size permille scene (Some spot) = refl
+
+pub sample_each : (size permille : ℕ) (scene : SceneParts) (ray : Ray) → (sample_of size permille scene ray).evals ≡ (sample_of size permille scene ray).size
+unfolding sample_of
+sample_each size permille scene ray = each_at size permille scene (spot_seen scene ray)
+
 est_at : (size permille : ℕ) (scene : SceneParts) (o : Option Spot) → IsScene scene → IfSome o IsSpot → IsRgbWithin (2 ^ 117 - 1) (answer_at size permille scene o).est
 est_at size permille scene None h hs = record { r = omega arith; g = omega arith; b = omega arith }
 est_at size permille scene (Some spot) h hs =

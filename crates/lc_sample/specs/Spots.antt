@@ -1,11 +1,11 @@
 -- The spot of a hit: where the light is gathered, and how the surface sends it back.
-use Rattle.std.specs.Prelude.{◌≡◌, ℕ, ◌^◌, List, Some, IsSomeAnd, slice_get, ℤ, pos, negsuc, ◌+ℤ◌, ◌-ℤ◌, ◌*ℤ◌, int_lt, int_div, if◌then◌else◌}
+use Rattle.std.specs.Prelude.{ℕ, ◌^◌, List, ℤ, pos, negsuc, ◌+ℤ◌, ◌-ℤ◌, ◌*ℤ◌, int_lt, int_div, if◌then◌else◌}
 use Rattle.std.specs.Int.{int_div_euclid, int_min, int_max}
 use Rattle.lc_num.specs.Vectors.{difference, dot, zero_vector}
 use Rattle.lc_num.specs.Cosines.{scaled}
 use Rattle.lc_num.specs.declared.vectors.Vec3.{Vec3}
 use Rattle.lc_geom.specs.Crossing.{side}
-use Rattle.lc_geom.specs.Hits.{depth}
+use Rattle.lc_geom.specs.Hits.{IsHitOf}
 use Rattle.lc_geom.specs.Triangles.{normal_of}
 use Rattle.lc_geom.specs.declared.hit.Hit.{Hit}
 use Rattle.lc_geom.specs.declared.triangle.Tri.{Tri}
@@ -16,7 +16,7 @@ use Rattle.lc_sample.specs.declared.surface.Surface.{Surface}
 
 -- a hit of the ray on a triangle of the list
 abbrev pub IsHit : List Tri → Ray → Hit → Type 0
-IsHit ts ray hit = IsSomeAnd (slice_get ts hit.number) (λ t. depth ray.e ray.d t ≡ Some hit.depth)
+IsHit ts ray hit = IsHitOf ray.e ray.d ts hit
 
 -- ---- the place
 

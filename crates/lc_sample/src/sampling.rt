@@ -62,6 +62,7 @@ pub fn sample<L: Ledger>(
     ensures fraction { (result.size ≡ ask.size) ⊎ IsFraction ask.permille result }
     ensures size { result.size ≤ ask.size }
     ensures evals { result.evals ≤ 2 * ask.size }
+    ensures each { result.evals ≡ result.size }
     ensures est { IsRgbWithin (2 ^ 117 - 1) result.est }
     ensures bound { IsRgbWithin (2 ^ 117 - 1) result.bound }
     ensures steps { steps.new ≡ steps.old + result.evals }

@@ -8,7 +8,7 @@ ghost use Rattle.lc_sample.specs.Scenes.{IsScene, scene_of};
 
 use crate::surface::{Reflectance, Surface};
 use lc_cut::Forest;
-use lc_hier::Plain;
+use lc_hier::Hier;
 use lc_light::Lights;
 use lc_mtl::{Material, Materials};
 use lc_num::{Colour, List, Memory, Text};
@@ -16,12 +16,11 @@ use lc_obj::{Face, Mesh};
 use std::alloc::Global;
 use std::marker::Model;
 
-/// What is lit and what lights it: surfaces, in a form that rays and segments are tested against, and the trees of the
-/// lights. Contracts see it as its surfaces by their numbers, from 0, and its trees.
+/// What is lit and what lights it: surfaces, with their triangles in a hierarchy of boxes, and the trees of the lights. Contracts see it as its surfaces by their numbers, from 0, and its trees.
 #[derive(Drop)]
 pub struct Scene {
     pub(crate) surfaces: List<Surface>,
-    pub(crate) triangles: Plain,
+    pub(crate) triangles: Hier,
     pub(crate) forest: Forest,
 }
 
@@ -131,9 +130,10 @@ impl Scene {
             triangles.push(face.tri)?;
         }
         let forest = Forest::build(alloc, &lights, seed)?;
+        let hierarchy = Hier::build(alloc, triangles.as_slice())?;
         Ok(Scene {
             surfaces,
-            triangles: Plain::new(triangles),
+            triangles: hierarchy,
             forest,
         })
     }

@@ -60,6 +60,7 @@ probe_recorded name place direction files before now steps_before steps_now work
       fraction = fraction probe_size probe_permille (trees_of probe_scene spot forest) (omega arith);
       size = size_most probe_size probe_permille (trees_of probe_scene spot forest) (omega arith);
       evals = evals_most probe_size probe_permille (trees_of probe_scene spot forest) (omega arith);
+      each = refl;
       counted = counted ∙ ap (λ (w : Work). steps_before + w.evals) is;
     }
 

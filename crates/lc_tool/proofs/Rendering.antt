@@ -29,7 +29,7 @@ use Rattle.lc_tool.specs.Status.{code}
 use Rattle.lc_tool.specs.Stopped.{Gave}
 use Rattle.lc_tool.specs.Ends.{Counts, Ends, Runs}
 use Rattle.lc_tool.specs.Rendered.{AreCounted, AreFractions, AreNear, HasPicture, HasRecord, IsRenderOf, LeavesParts, TellsWorld, recorded}
-use Rattle.lc_sample.proofs.SampleLemmas.{sample_evals, sample_fraction, sample_near}
+use Rattle.lc_sample.proofs.SampleLemmas.{sample_each, sample_evals, sample_fraction, sample_near}
 use Rattle.lc_frame.proofs.WrittenLemmas.{picture_left, picture_part, record_left, record_part}
 use Rattle.lc_tool.proofs.Running.{AreOff, by_done, is_done, off_made, off_stopped, some_as, some_here}
 use Rattle.lc_tool.proofs.Through.{went_through, if_ok, ok_same, told_files}
@@ -134,9 +134,9 @@ render_fractions words held world r =
     let valid = render_is words held world r in
     each_recorded (λ a. (a.size ≡ world.job.cut) ⊎ IsFraction world.job.permille a) world (λ ray. sample_fraction world.job.cut world.job.permille world.scene ray valid.job.cut_some)
 
-work_counted : (world : World) (steps_before steps_now : ℕ) → steps_now ≡ steps_before + (render_work world).evals → All (λ a. a.evals ≤ 2 * world.job.cut) (recorded world) → AreCounted world steps_before steps_now
+work_counted : (world : World) (steps_before steps_now : ℕ) → steps_now ≡ steps_before + (render_work world).evals → All (λ a. a.evals ≤ 2 * world.job.cut) (recorded world) → All (λ a. a.evals ≡ a.size) (recorded world) → AreCounted world steps_before steps_now
 unfolding render_work
-work_counted world steps_before steps_now all each = record { each = each; all = all }
+work_counted world steps_before steps_now all each one = record { each = each; one = one; all = all }
 
 pub run_counted : (words : List (List ℕ)) (status : Status) (held : Option Files) (world : World) (steps_before steps_now : ℕ) → IsRenderOf words held world → Counts status (outcome_told words held) steps_before steps_now → code status ≡ 0 → AreCounted world steps_before steps_now
 run_counted words status held world steps_before steps_now r counts zero =
@@ -144,6 +144,7 @@ run_counted words status held world steps_before steps_now r counts zero =
     work_counted world steps_before steps_now
     (leaves_work words held world (λ w. steps_now ≡ steps_before + w.evals) r (counts (is_done status zero)))
     (each_recorded (λ a. a.evals ≤ 2 * world.job.cut) world (λ ray. sample_evals world.job.cut world.job.permille world.scene ray valid.job.cut_some))
+    (each_recorded (λ a. a.evals ≡ a.size) world (λ ray. sample_each world.job.cut world.job.permille world.scene ray))
 
 -- ---- the files tell a world
 

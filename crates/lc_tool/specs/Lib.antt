@@ -33,10 +33,10 @@ pub use Rattle.lc_bound.specs.Sun
 pub use Rattle.lc_tree.specs.Node
 pub use Rattle.lc_tree.specs.Build
 pub use Rattle.lc_words.specs.Words as StreamWords
-pub use Rattle.lc_rated.specs.Rated
+pub use Rattle.lc_rated.specs.LitTrees
 pub use Rattle.lc_rated.specs.Cuts
 pub use Rattle.lc_cut.specs.Contribution
-pub use Rattle.lc_cut.specs.Rating
+pub use Rattle.lc_cut.specs.Lit
 pub use Rattle.lc_cut.specs.Forest
 pub use Rattle.lc_view.specs.Samples
 pub use Rattle.lc_job.specs.JobFile

@@ -24,6 +24,7 @@ pub record ProbeRecorded (name : List ℕ) (place direction : Vec3) (files : Fil
   pub fraction : (answer.size ≡ probe_size) ⊎ IsFraction probe_permille answer
   pub size : answer.size ≤ probe_size
   pub evals : answer.evals ≤ 2 * probe_size
+  pub each : answer.evals ≡ answer.size
   pub counted : steps_now ≡ steps_before + answer.evals
 
 abbrev pub Recorded : Option Command → Files → DeskState → DeskState → ℕ → ℕ → Type 0

@@ -41,9 +41,11 @@ AreNear world = All (λ ray. IsNear (light_of world.scene ray) (sample_of world.
 abbrev pub AreFractions : World → Type 0
 AreFractions world = All (λ a. (a.size ≡ world.job.cut) ⊎ IsFraction world.job.permille a) (recorded world)
 
--- each sample took at most twice the greatest size of evaluations, and the counter rose by the sum of all of them
+-- each sample took an evaluation for each of its clusters, so at most twice the greatest size, and the counter rose by the sum
+-- of all of them
 pub record AreCounted (world : World) (steps_before steps_now : ℕ) : Type 0 where
   pub each : All (λ a. a.evals ≤ 2 * world.job.cut) (recorded world)
+  pub one : All (λ a. a.evals ≡ a.size) (recorded world)
   pub all : steps_now ≡ steps_before + evals_of (recorded world)
 
 -- the record's file has exactly the record of the answers, under the job's name

@@ -135,7 +135,7 @@ fn renders_a_dark_scene(rt: HostRuntime) -> Result<(), Fail> {
         b"P6\n1 1\n255\n\0\0\0".as_slice()
     );
     let record = desk.told(Slot::Bounds);
-    let Some(bounds) = record.strip_prefix(b"LCB 1 1 1 1 3 20\n3 5 0 0 0 ") else {
+    let Some(bounds) = record.strip_prefix(b"LCB 1 1 1 1 3 20\n3 3 0 0 0 ") else {
         panic!(&rt; "a record");
     };
     expect_bounds(&rt, bounds);

@@ -102,7 +102,7 @@ fn adds_what_is_seen_of_each_kind(rt: HostRuntime) -> Result<(), Fail> {
     // A point that is seen and one that is not, and a sun of each sort: of the four leaves two give light.
     let text = b"point 0 0 2 1 1 1\npoint 0 0 0.5 1 1 1\nsun 0 0 1 1 1 1\nsun 1 0 1 1 1 1\n";
     let answer = light(rt.alloc(), text)?;
-    assert_eq!(rt; (answer.size, answer.evals), (4, 6));
+    assert_eq!(rt; (answer.size, answer.evals), (4, 4));
     assert_eq!(rt; answer.est.r, 30_848_400_000_000_000_000_000);
     assert_eq!(rt; answer.bound.r, 0);
     Ok(())

@@ -1,19 +1,18 @@
-use Rattle.std.proofs.Common.{◌≡◌, ◌+◌, ◌-◌, ◌*◌, length}
+use Rattle.std.proofs.Common.{◌≡◌, ◌+◌, ◌-◌, length}
 use Rattle.lc_rated.specs.Cuts.{roots_of}
-use Rattle.lc_rated.specs.Nodes.{HasRoom, IsCutOf}
+use Rattle.lc_rated.specs.Nodes.{IsCutOf}
 use Rattle.lc_rated.proofs.CutSequence.{Going}
 use Rattle.lc_rated.proofs.run.run.Given as goal
 
 abbrev pub invariant-loop-nodes : goal.invariant-loop-nodes
 invariant-loop-nodes g l =
-    let roots = roots_of (g.R.Rater.trees l.fn.rater) in
+    let trees = g.T.Lighting.trees l.lighting in
     record {
-      trees : g.R.Rater.trees l.rater ≡ g.R.Rater.trees l.fn.rater;
-      cut : IsCutOf roots l.nodes;
-      going : Going l.size l.permille roots (length l.nodes.marks.items - length roots);
-      steps : l.steps ≡ l.fn.steps + (2 * length l.nodes.marks.items - length roots);
-      room : HasRoom l.size l.nodes;
+      cut : IsCutOf (g.T.Lighting.keeps l.lighting) (roots_of trees) l.nodes;
+      going : Going l.size l.permille (roots_of trees) (length l.nodes.entries - length (roots_of trees));
+      steps : l.steps ≡ l.fn.steps + length l.nodes.entries;
+      room : l.nodes.room ≡ l.size;
     }
 
 abbrev pub decreases-loop-nodes : goal.decreases-loop-nodes
-decreases-loop-nodes g l = l.size - length l.nodes.marks.items
+decreases-loop-nodes g l = l.size - length l.nodes.entries

@@ -1,7 +1,9 @@
-use Rattle.std.proofs.Common.{◌≡◌, ◌≤◌, length, map, ap, sym, ◌∙◌, arith}
+use Rattle.std.proofs.Common.{map, ap, sym, subst, ◌∙◌, arith, List, All}
+use Rattle.lc_geom.specs.Triangles.{IsTri}
+use Rattle.lc_geom.specs.declared.triangle.Tri.{Tri}
 use Rattle.lc_sample.specs.declared.surface.Surface.{Surface}
 use Rattle.lc_sample.specs.Scenes.{IsScene}
-use Rattle.lc_sample.specs.Surfaces.{look_of, surface_of}
+use Rattle.lc_sample.specs.Surfaces.{look_of}
 use Rattle.lc_sample.proofs.SurfaceLemmas.{surfaces_more, triangles_more, surfaces_all, scene_is, scene_valid, triangles_are}
 use Rattle.lc_sample.proofs.scene.Scene.join.Goals as goal
 
@@ -18,22 +20,18 @@ loop-face-preserved c =
           c.in_ok-push.ensures.ok c.in_ok-push-2.ensures.ok (sym (ap (λ (s : Surface). s.tri) c.surface_of.ensures)) c.loop-face.invariant.triangles;
     }
 
--- the surfaces of all faces, after the loop
-all_surfaces : (c : goal.In_ok-forest) → c.loop-face.surfaces ≡ map (surface_of c.args.mesh.names c.args.materials.now.items) c.args.mesh.faces
-all_surfaces c =
-    let past : length c.as_slice-face-items.result.now ≤ c.loop-face.face-index = omega arith in
-    surfaces_all c.args.mesh.names c.args.materials.now.items c.args.mesh c.as_slice-face-items.result.now c.loop-face.face-index c.loop-face.surfaces past c.as_slice-face-items.ensures c.loop-face.invariant.surfaces
-
-pub new-requires-clause-valid : goal.new-requires-clause-valid
-new-requires-clause-valid c =
+pub build-requires-2-clause-valid : goal.build-requires-2-clause-valid
+build-requires-2-clause-valid c =
     let valid : IsScene (record { surfaces = c.loop-face.surfaces; forest = c.in_ok-forest.forest }) =
-    scene_valid c.args.mesh c.args.materials.now.items c.args.lights c.args.seed c.loop-face.surfaces c.in_ok-forest.forest (all_surfaces c) c.in_ok-forest.ensures.value c.requires.mesh c.requires.materials c.requires.lights
+    scene_valid c.args.mesh c.args.materials.now.items c.args.lights c.args.seed c.loop-face.surfaces c.in_ok-forest.forest
+    (surfaces_all c.args.mesh.names c.args.materials.now.items c.args.mesh c.as_slice-face-items.result.now c.loop-face.face-index c.loop-face.surfaces (omega arith) c.as_slice-face-items.ensures c.loop-face.invariant.surfaces)
+    c.in_ok-forest.ensures.value c.requires.mesh c.requires.materials c.requires.lights
     in
-    triangles_are c.loop-face.surfaces c.loop-face.triangles c.loop-face.invariant.triangles valid.surfaces
+    subst (λ (ts : List Tri). All IsTri ts) (sym c.as_slice-2.ensures) (triangles_are c.loop-face.surfaces c.loop-face.triangles c.loop-face.invariant.triangles valid.surfaces)
 
 pub invariant_of-result : goal.invariant_of-result
 invariant_of-result c = (
-  c.new.ensures ∙ c.loop-face.invariant.triangles,
+  c.in_ok-hierarchy.ensures ∙ c.as_slice-2.ensures ∙ c.loop-face.invariant.triangles,
   scene_valid c.args.mesh c.args.materials.now.items c.args.lights c.args.seed c.loop-face.surfaces c.in_ok-forest.forest
       (surfaces_all c.args.mesh.names c.args.materials.now.items c.args.mesh c.as_slice-face-items.result.now c.loop-face.face-index c.loop-face.surfaces (omega arith) c.as_slice-face-items.ensures c.loop-face.invariant.surfaces)
       c.in_ok-forest.ensures.value c.requires.mesh c.requires.materials c.requires.lights,

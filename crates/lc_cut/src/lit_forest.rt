@@ -1,0 +1,65 @@
+// A forest at one spot of a scene.
+ghost use Rattle.lc_terms.specs.Spot.{IsMatte, IsSpot};
+
+use crate::forest::Forest;
+use crate::node::{root, split};
+use lc_geom::Triangles;
+use lc_num::{Rgb, Steps};
+use lc_rated::{Found, LightKind, Lighting, Split};
+use lc_terms::Spot;
+use std::sync::ledger::Ledger;
+
+/// The trees of a forest at a matte spot among the triangles of a scene.
+pub(crate) struct LitForest<'a, T: Triangles> {
+    pub(crate) forest: &'a Forest,
+    pub(crate) spot: &'a Spot,
+    pub(crate) scene: &'a T,
+    ghost valid: { IsSpot spot.now × IsMatte spot.now },
+}
+
+impl<T: Triangles> Drop for LitForest<'_, T> {
+    fn drop(self) {
+        let Self {
+            forest: _,
+            spot: _,
+            scene: _,
+        } = self;
+    }
+}
+
+impl<T: Triangles> Lighting for LitForest<'_, T> {
+    ghost use Rattle.lc_cut.specs.Forest.{keeps_of, trees_of};
+
+    type Kept = Rgb;
+
+    ghost trees = { λ f. trees_of (T.list f.scene.now) f.spot.now f.forest.now };
+
+    ghost keeps = { λ f. keeps_of (T.list f.scene.now) f.spot.now f.forest.now };
+
+    fn root<L: Ledger>(&self, kind: LightKind, steps: &mut Steps<L>) -> Option<Found<Rgb>> {
+        match kind {
+            LightKind::Omni => root(&self.forest.omni, self.spot, self.scene, steps),
+            LightKind::Oriented => root(&self.forest.oriented, self.spot, self.scene, steps),
+            LightKind::Sun => root(&self.forest.sun, self.spot, self.scene, steps),
+        }
+    }
+
+    fn split<L: Ledger>(
+        &self,
+        kind: LightKind,
+        node: u32,
+        kept: Rgb,
+        steps: &mut Steps<L>,
+    ) -> Option<Split<Rgb>> {
+        let Self {
+            forest,
+            spot,
+            scene,
+        } = self;
+        match kind {
+            LightKind::Omni => split(&forest.omni, node, kept, spot, *scene, steps),
+            LightKind::Oriented => split(&forest.oriented, node, kept, spot, *scene, steps),
+            LightKind::Sun => split(&forest.sun, node, kept, spot, *scene, steps),
+        }
+    }
+}

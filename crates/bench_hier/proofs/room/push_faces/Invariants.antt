@@ -1,0 +1,6 @@
+use Rattle.std.proofs.Common.{All}
+use Rattle.lc_geom.specs.Triangles.{IsTri}
+use Rattle.bench_hier.proofs.room.push_faces.Given as goal
+
+abbrev pub invariant-loop-face : goal.invariant-loop-face
+invariant-loop-face l = All IsTri l.list

@@ -127,6 +127,27 @@ fn asks_once_where_the_root_is_enough(rt: HostRuntime) -> Result<(), Fail> {
 }
 
 #[test]
+fn asks_once_for_each_cluster(rt: HostRuntime) -> Result<(), Fail> {
+    // The same lights, where only a bound of nothing is enough: each refinement evaluates one light.
+    let text = b"point 0 0 1 1 1 1\n".as_slice().repeat(rt.alloc(), 1000)?;
+    let lights = read_lights(rt.alloc(), &text, 0)?;
+    let forest = Forest::build(rt.alloc(), &lights, 0)?;
+    let mut bench = Bench::new(rt.alloc(), 100)?;
+    let scene = Counting {
+        asked: Cell::new(0),
+    };
+    let ask = Ask {
+        permille: 0,
+        size: 100,
+    };
+    let answer = look(&mut bench, &forest, &scene, ask);
+    assert_eq!(rt; (answer.size, answer.evals), (100, 100));
+    assert_eq!(rt; answer.est, gray(6_553_600_000_000_000_000_000_000));
+    assert!(rt; scene.asked.get() <= 100);
+    Ok(())
+}
+
+#[test]
 fn asks_nothing_of_lights_that_give_nothing(rt: HostRuntime) -> Result<(), Fail> {
     // Behind the surface, in its plane, and turned away from it: no segment has to be tested.
     let text = b"point 0 0 -1 1 1 1\npoint 1 0 0 1 1 1\narea 0 0 1 0.0001 0 0 0 0.0001 0 1 1 1 1\n";

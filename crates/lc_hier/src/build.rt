@@ -15,9 +15,10 @@ use lc_geom::Tri;
 use lc_num::Memory;
 use std::alloc::Global;
 
-/// A leaf has at most so many triangles.
+/// A leaf has at most so many triangles. Its box is joined of those of its first and its last, so these are at most 2.
 const LEAF: usize = 2;
 
+/// The box of the end node, at which no walk looks.
 const NOWHERE: Bounds = Bounds {
     low: Corner { x: 0, y: 0, z: 0 },
     high: Corner { x: 0, y: 0, z: 0 },
@@ -80,7 +81,7 @@ fn nodes_of(alloc: Global, items: &mut [Item]) -> Result<Vec<Node>, Memory>
 }
 
 impl Hier {
-    /// The hierarchy of the triangles of a list, numbered from 0.
+    /// The hierarchy of the triangles of a list, at most 1,000,000, numbered from 0.
     pub fn build(alloc: Global, list: &[Tri]) -> Result<Hier, Memory>
         requires valid { All IsTri list.now }
         requires few { length list.now ≤ 1_000_000 }

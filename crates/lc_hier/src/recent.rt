@@ -7,23 +7,24 @@ use std::cell::Cell;
 
 const PLACES: usize = 4_096;
 
-/// No row has this number.
+/// No row stands at this place.
 const NONE: u32 = u32::MAX;
 
-/// The rows of triangles that blocked a segment before, by the segment's end. Neighbouring places are often in the shadow of
-/// one triangle. Whatever the cells hold, the answers are the same.
+/// The places of rows whose triangles blocked a segment before, by the segment's end, or by its direction where the end is
+/// far. Neighbouring places are often in the shadow of one triangle. Whatever the cells hold, the answers are the same.
 #[derive(Drop)]
 pub(crate) struct Recent {
     rows: Vec<Cell<u32>>,
     ghost full: { vec_len rows ≡ 4096 },
 }
 
-/// A place in the table. Light from a sun is kept by its direction, since its segments end far apart.
+/// A place in the table, by 12 bits of a sum of the coordinates times numbers that look random. Corners and lamps are within
+/// 2^26, while a segment toward a sun ends farther away, each one elsewhere: these are kept by their directions.
 #[inline(always)]
 fn place(p: Vec3, q: Vec3) -> usize
     ensures { result < 4096 }
 {
-    let is_far = (q.x.unsigned_abs() | q.y.unsigned_abs() | q.z.unsigned_abs()) >> 27 != 0;
+    let is_far = (q.x.unsigned_abs() | q.y.unsigned_abs() | q.z.unsigned_abs()) >> 26 != 0;
     let (x, y, z) = if is_far {
         (
             q.x.wrapping_sub(p.x),
@@ -46,7 +47,7 @@ impl Recent {
         Ok(Recent { rows })
     }
 
-    /// The row that is kept for such a segment, if any has its number.
+    /// The place of the row that is kept for such a segment, or one at which no row stands.
     #[inline(always)]
     pub(crate) fn row(&self, p: Vec3, q: Vec3) -> u32 {
         self.rows[place(p, q)].get()

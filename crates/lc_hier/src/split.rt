@@ -7,7 +7,8 @@ use lc_num::{Vec3, greater, lesser};
 
 const BINS: usize = 16;
 
-/// From this depth on, items are halved by their number. So no node of 1,000,000 triangles is deeper than 68.
+/// From this depth on each child takes half of the items, wherever they are. So no node of 1,000,000 triangles is deeper
+/// than 68.
 const DEEP: u32 = 48;
 
 /// The bits that extents keep, so that areas times counts fit 64 bits.
@@ -168,7 +169,7 @@ impl Binning {
         ensures { result < 16 }
     {
         let distance = extent(self.base, along(self.axis, middle(bounds)));
-        (distance >> self.shift.min(63)).min(15) as usize
+        (distance >> self.shift.min(63)).min(BINS as u64 - 1) as usize
     }
 
     fn bins(&self, items: &[Item]) -> [Bin; BINS] {

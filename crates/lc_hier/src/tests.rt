@@ -1,4 +1,4 @@
-// Hits and blocked segments of a list, worked out by hand.
+// Hits and blocked segments of a list, and boxes that a segment misses, worked out by hand.
 ghost use Rattle.std.specs.Prelude.{◌≤◌, unsigned_abs};
 ghost use Rattle.lc_geom.specs.Triangles.{IsTri};
 

@@ -86,7 +86,7 @@ refinements size permille roots = least size (λ k. stops size permille (cut_at 
 abbrev pub chosen : ℕ → ℕ → List Placed → List Placed
 chosen size permille roots = cut_at roots (refinements size permille roots)
 
--- each node's representative was evaluated once, or taken over with its light from the parent
+-- one light is evaluated for each root and for each refinement, so as many as the cut has nodes
 abbrev pub answer_of : List Placed → Answer
 answer_of cut = record {
   size = length cut;

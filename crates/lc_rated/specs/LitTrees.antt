@@ -1,4 +1,4 @@
--- LitTree trees: what each node of a light tree has at one spot.
+-- Lit trees: what each node of a light tree gives at one spot.
 use Rattle.std.specs.Prelude.{ℕ, zero, suc, ◌+◌, ◌-◌, ◌*◌, ◌≤◌, ◌^◌, nat_lt, if◌then◌else◌, Option, None, Some, IfSome}
 use Rattle.lc_num.specs.declared.channels.Rgb.{Rgb}
 use Rattle.lc_num.specs.Channels.{black}

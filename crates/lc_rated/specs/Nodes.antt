@@ -48,7 +48,7 @@ made_entry k node light = record { key = light_key light; kind = kind_number k; 
 abbrev pub entry_of : Placed → Entry
 entry_of p = made_entry p.kind p.node (light_of p.tree)
 
--- where the slot of a node stands
+-- where the number of the slot of a node stands
 abbrev pub place_of : LightKind → ℕ → ℕ
 place_of k node = 3 * node + kind_number k
 

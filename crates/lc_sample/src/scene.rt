@@ -16,7 +16,8 @@ use lc_obj::{Face, Mesh};
 use std::alloc::Global;
 use std::marker::Model;
 
-/// What is lit and what lights it: surfaces, with their triangles in a hierarchy of boxes, and the trees of the lights. Contracts see it as its surfaces by their numbers, from 0, and its trees.
+/// What is lit and what lights it: surfaces, with their triangles in a hierarchy of boxes, and the trees of the lights.
+/// Contracts see it as its surfaces by their numbers, from 0, and its trees.
 #[derive(Drop)]
 pub struct Scene {
     pub(crate) surfaces: List<Surface>,

@@ -8,3 +8,4 @@ pub mod ExtremeLemmas
 pub mod BoxLemmas
 pub mod CosineLaw
 pub mod BoxCode
+pub mod PowerLemmas

@@ -393,3 +393,17 @@ fn extremes(rt: HostRuntime) {
     assert_eq!(rt; lesser(a, b), Vec3 { x: -4, y: -2, z: 3 });
     assert_eq!(rt; greater(a, b), Vec3 { x: 1, y: 5, z: 3 });
 }
+
+#[test]
+fn powers(rt: HostRuntime) {
+    // A half to the 16th is 1/65536; to the 17th it is rounded away.
+    assert_eq!(rt; pow16(32768, 16), 1);
+    assert_eq!(rt; pow16(32768, 17), 0);
+    assert_eq!(rt; pow16(32768, 1000), 0);
+    assert_eq!(rt; pow16(65536, 1000), 65536);
+    assert_eq!(rt; pow16(0, 0), 65536);
+    assert_eq!(rt; pow16(46340, 1), 46340);
+    // 65000^2/65536 is 64468.4 and 65000*64468/65536 is 63940.7.
+    assert_eq!(rt; pow16(65000, 2), 64468);
+    assert_eq!(rt; pow16(65000, 3), 63940);
+}

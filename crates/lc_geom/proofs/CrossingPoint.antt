@@ -182,3 +182,15 @@ inside p q low high t e a b c =
       y = some_mean (side t p) (side t q) (volume p q t.b t.c) (volume p q t.c t.a) (volume p q t.a t.b) p.y q.y t.a.y t.b.y t.c.y sum (mean_y p q t) s.0 s.1 low.y high.y a.low_y a.high_y b.low_y b.high_y c.low_y c.high_y;
       z = some_mean (side t p) (side t q) (volume p q t.b t.c) (volume p q t.c t.a) (volume p q t.a t.b) p.z q.z t.a.z t.b.z t.c.z sum (mean_z p q t) s.0 s.1 low.z high.z a.low_z a.high_z b.low_z b.high_z c.low_z c.high_z;
     }
+
+-- the three volumes are not all 0
+some_volume : (start end u v w : ℤ) → are_opposite start end ≡ true → u +ℤ v +ℤ w ≡ end -ℤ start → 0 < unsigned_abs u + unsigned_abs v + unsigned_abs w
+some_volume start end u v w e sum = by_signs (signs_of_ends start end e) where
+  by_signs : ((start <ℤ pos 0) × (pos 0 <ℤ end)) ⊎ ((pos 0 <ℤ start) × (end <ℤ pos 0)) → 0 < unsigned_abs u + unsigned_abs v + unsigned_abs w
+  by_signs (inl s) = let low = s.0 in let high = s.1 in omega (arith, ints, sum)
+  by_signs (inr s) = let low = s.0 in let high = s.1 in omega (arith, ints, sum)
+
+pub weights_some : (p q : Vec3) (t : Tri) → crosses p q t ≡ true → 0 < unsigned_abs (volume p q t.b t.c) + unsigned_abs (volume p q t.c t.a) + unsigned_abs (volume p q t.a t.b)
+unfolding crosses
+weights_some p q t e =
+    some_volume (side t p) (side t q) (volume p q t.b t.c) (volume p q t.c t.a) (volume p q t.a t.b) (and_both _ _ e).0 (volumes_total p q t)

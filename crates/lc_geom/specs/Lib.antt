@@ -4,3 +4,4 @@ pub mod Triangles
 pub mod Crossing
 pub mod Hits
 pub mod Points
+pub mod Weights

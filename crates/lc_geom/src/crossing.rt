@@ -67,8 +67,40 @@ fn two_volumes(p: Vec3, q: Vec3, t: &Tri) -> (i128, i128)
     )
 }
 
+/// What is left of the difference of two sides after two volumes.
+fn rest(start: i128, end: i128, u: i128, v: i128) -> i128
+    requires start { unsigned_abs start < 2 ^ 87 }
+    requires end { unsigned_abs end < 2 ^ 87 }
+    requires u { unsigned_abs u < 2 ^ 87 }
+    requires v { unsigned_abs v < 2 ^ 87 }
+    ensures value { result ≡ (end -ℤ start) -ℤ u -ℤ v }
+    ensures most { unsigned_abs result < 2 ^ 90 }
+{
+    end - start - u - v
+}
+
+/// The volumes between a segment, whose ends lie on these two sides of a triangle's plane, and the triangle's three sides.
+/// They add up to the difference of the two sides of the plane, so the third needs no product.
+pub(crate) fn three_volumes(p: Vec3, q: Vec3, t: &Tri, start: i128, end: i128) -> (i128, i128, i128)
+    requires p { Within 50_100_000 p }
+    requires q { Within 320_000_000 q }
+    requires t { IsTri t.now }
+    requires start { start ≡ side t.now p }
+    requires end { end ≡ side t.now q }
+    requires most_start { unsigned_abs start < 2 ^ 87 }
+    requires most_end { unsigned_abs end < 2 ^ 87 }
+    ensures first { result.0 ≡ volume p q t.now.a t.now.b }
+    ensures second { result.1 ≡ volume p q t.now.b t.now.c }
+    ensures third { result.2 ≡ volume p q t.now.c t.now.a }
+    ensures most_first { unsigned_abs result.0 < 2 ^ 87 }
+    ensures most_second { unsigned_abs result.1 < 2 ^ 87 }
+    ensures most_third { unsigned_abs result.2 < 2 ^ 90 }
+{
+    let (u, v) = two_volumes(p, q, t);
+    (u, v, rest(start, end, u, v))
+}
+
 /// Whether a segment whose ends lie on these two sides of a triangle's plane passes the triangle's sides on one side.
-/// The three volumes add up to the difference of the two sides, so the third needs no product.
 fn passes_within(p: Vec3, q: Vec3, t: &Tri, start: i128, end: i128) -> bool
     requires p { Within 50_100_000 p }
     requires q { Within 320_000_000 q }
@@ -79,8 +111,8 @@ fn passes_within(p: Vec3, q: Vec3, t: &Tri, start: i128, end: i128) -> bool
     requires most_end { unsigned_abs end < 2 ^ 87 }
     ensures { result ≡ have_one_sign (volume p q t.now.a t.now.b) (volume p q t.now.b t.now.c) (volume p q t.now.c t.now.a) }
 {
-    let (u, v) = two_volumes(p, q, t);
-    have_one_sign(u, v, end - start - u - v)
+    let (u, v, w) = three_volumes(p, q, t, start, end);
+    have_one_sign(u, v, w)
 }
 
 /// Whether a segment whose ends lie on these two sides of a triangle's plane crosses the triangle.

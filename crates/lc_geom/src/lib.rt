@@ -6,12 +6,14 @@ mod hit;
 mod laws;
 mod triangle;
 mod triangles;
+mod weights;
 
 pub use crossing::blocks;
 pub use hit::{Hit, depth, moved};
 pub use laws::{blocked_by, crossing_point, nearest_hit};
 pub use triangle::{Tri, is_flat, normal_of};
 pub use triangles::Triangles;
+pub use weights::{Weights, weights_of};
 
 #[cfg(test)]
 mod tests;

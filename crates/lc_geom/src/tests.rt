@@ -169,3 +169,40 @@ fn depths(rt: HostRuntime) {
     };
     assert_eq!(rt; depth(eye, third, &t), Some(357_913_941));
 }
+
+#[test]
+fn weights_of_corners(rt: HostRuntime) {
+    let t = Tri {
+        a: Vec3 { x: 0, y: 0, z: 0 },
+        b: Vec3 {
+            x: 10_000,
+            y: 0,
+            z: 0,
+        },
+        c: Vec3 {
+            x: 0,
+            y: 10_000,
+            z: 0,
+        },
+    };
+    // Straight down at 1000 along the one side and 2000 along the other: 7, 1 and 2 parts of 10.
+    let p = Vec3 {
+        x: 1_000,
+        y: 2_000,
+        z: 10_000,
+    };
+    let q = Vec3 {
+        x: 1_000,
+        y: 2_000,
+        z: -10_000,
+    };
+    assert!(rt; blocks(p, q, &t));
+    assert_eq!(rt;
+        weights_of(p, q, &t),
+        Weights {
+            a: 1_400_000_000_000,
+            b: 200_000_000_000,
+            c: 400_000_000_000
+        }
+    );
+}

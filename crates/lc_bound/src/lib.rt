@@ -5,6 +5,7 @@ mod hull;
 mod omni;
 mod oriented;
 mod reach;
+mod reflection;
 mod sun;
 
 pub use omni::{OmniClump, OmniKind};

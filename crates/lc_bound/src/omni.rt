@@ -4,8 +4,9 @@ ghost use Rattle.lc_bound.specs.OmniLaws.{omni_laws};
 
 use crate::hull::{box_from, hull, point_box};
 use crate::reach::{falloff, scaled_total};
+use crate::reflection::reflection_top;
 use lc_light::Omni;
-use lc_num::{Power, Rgb, Span3, Vec3, cos_top, difference, near2, short_square};
+use lc_num::{Power, Rgb, Span3, Vec3, difference, near2, short_square};
 use lc_terms::{Kind, Spot};
 use std::marker::Model;
 
@@ -86,10 +87,9 @@ impl Kind for OmniKind {
 
     fn top(spot: &Spot, clump: &OmniClump) -> Rgb {
         let near = near2(spot.x, clump.span);
-        let cosine = cos_top(spot.n, box_from(spot.x, clump.span), near);
-        if cosine == 0 {
+        let Some(reflection) = reflection_top(spot, box_from(spot.x, clump.span), near) else {
             return Rgb { r: 0, g: 0, b: 0 };
-        }
-        scaled_total(falloff(near as u64), cosine, spot.kd, clump.total)
+        };
+        scaled_total(falloff(near as u64), spot, reflection, clump.total)
     }
 }

@@ -4,8 +4,9 @@ ghost use Rattle.lc_bound.specs.OrientedLaws.{oriented_laws};
 
 use crate::hull::{box_from, box_to, hull, point_box};
 use crate::reach::{emitted, falloff, scaled_total};
+use crate::reflection::reflection_top;
 use lc_light::Oriented;
-use lc_num::{Power, Rgb, Span3, Vec3, cos_top, cos16, difference, emit_top, near2, short_square};
+use lc_num::{Power, Rgb, Span3, Vec3, cos16, difference, emit_top, near2, short_square};
 use lc_terms::{Kind, Spot};
 use std::marker::Model;
 
@@ -97,17 +98,16 @@ impl Kind for OrientedKind {
 
     fn top(spot: &Spot, clump: &OrientedClump) -> Rgb {
         let near = near2(spot.x, clump.span);
-        let cosine = cos_top(spot.n, box_from(spot.x, clump.span), near);
-        if cosine == 0 {
+        let Some(reflection) = reflection_top(spot, box_from(spot.x, clump.span), near) else {
             return Rgb { r: 0, g: 0, b: 0 };
-        }
+        };
         let offsets = box_to(spot.x, clump.span);
         let emission = emit_top(clump.normals, clump.least as u128, offsets, near);
         if emission == 0 {
             return Rgb { r: 0, g: 0, b: 0 };
         }
         let geometry = emitted(emission, falloff(near as u64));
-        scaled_total(geometry, cosine, spot.kd, clump.total)
+        scaled_total(geometry, spot, reflection, clump.total)
     }
 }
 

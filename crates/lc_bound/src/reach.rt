@@ -1,10 +1,14 @@
 // Terms of a factor, and bounds of them over a box.
-ghost use Rattle.std.specs.Prelude.{◌≡◌, ◌*◌, ◌≤◌, ◌^◌};
-ghost use Rattle.lc_num.specs.Channels.{IsPowerWithin, IsColourWithin};
+ghost use Rattle.std.specs.Prelude.{◌≡◌, ◌*◌, ◌≤◌, ◌<◌, ◌^◌};
+ghost use Rattle.lc_num.specs.Channels.{IsPowerWithin};
 ghost use Rattle.lc_terms.specs.Channels.{by_power, times};
+ghost use Rattle.lc_terms.specs.Factor.{reflected};
+ghost use Rattle.lc_terms.specs.Spot.{IsSpot};
 ghost use Rattle.lc_bound.specs.Reach.{emitted, falloff};
 
-use lc_num::{Colour, Power, Rgb};
+use crate::reflection::Reflection;
+use lc_num::{Power, Rgb};
+use lc_terms::Spot;
 
 /// The geometric term at a squared distance: `10^17 / max(square, 10^4)`, at most `10^13`.
 pub fn falloff(square: u64) -> u64
@@ -25,28 +29,31 @@ pub fn emitted(cosine: u32, geometry: u64) -> u64
     cosine as u64 * geometry / 65_536
 }
 
-/// One channel of a bound times the summed intensity, where `scale` is the geometric bound times the cosine.
+/// One channel of a colour times the summed intensity, where `scale` is the geometric bound times a cosine or a highlight.
 fn channel(scale: u64, colour: u32, total: u64) -> u128
     requires scale { scale ≤ 10 ^ 13 * 65_536 }
     requires colour { colour ≤ 10_000 }
     requires total { total ≤ 10 ^ 8 * 65_536 }
-    ensures { result ≡ scale * (colour * total) }
+    ensures value { result ≡ scale * (colour * total) }
+    ensures small { result < 2 ^ 116 }
 {
     scale as u128 * (colour as u64 * total) as u128
 }
 
-/// The geometric bound times the material bound times the summed intensity, per channel.
-pub fn scaled_total(geometry: u64, cosine: u32, colour: Colour, total: Power) -> Rgb
+/// The geometric bound times what a spot sends back of a reflection times the summed intensity, per channel.
+pub fn scaled_total(geometry: u64, spot: &Spot, reflection: Reflection, total: Power) -> Rgb
     requires geometry { geometry ≤ 10 ^ 13 }
-    requires cosine { cosine ≤ 65_536 }
-    requires colour { IsColourWithin 10_000 colour }
+    requires spot { IsSpot spot.now }
+    requires cosine { reflection.cosine ≤ 65_536 }
+    requires highlight { reflection.highlight ≤ 65_536 }
     requires total { IsPowerWithin (10 ^ 8 * 65_536) total }
-    ensures { result ≡ by_power (times geometry (record { r = colour.r * cosine; g = colour.g * cosine; b = colour.b * cosine })) total }
+    ensures { result ≡ by_power (times geometry (reflected spot.now reflection.cosine reflection.highlight)) total }
 {
-    let scale = geometry * cosine as u64;
+    let diffuse = geometry * reflection.cosine as u64;
+    let specular = geometry * reflection.highlight as u64;
     Rgb {
-        r: channel(scale, colour.r, total.r),
-        g: channel(scale, colour.g, total.g),
-        b: channel(scale, colour.b, total.b),
+        r: channel(diffuse, spot.kd.r, total.r) + channel(specular, spot.ks.r, total.r),
+        g: channel(diffuse, spot.kd.g, total.g) + channel(specular, spot.ks.g, total.g),
+        b: channel(diffuse, spot.kd.b, total.b) + channel(specular, spot.ks.b, total.b),
     }
 }

@@ -5,8 +5,9 @@ ghost use Rattle.lc_bound.specs.SunLaws.{sun_laws};
 
 use crate::hull::{hull, point_box};
 use crate::reach::scaled_total;
+use crate::reflection::reflection_top;
 use lc_light::Sun;
-use lc_num::{Power, Rgb, Span3, Vec3, cos_top, short_square};
+use lc_num::{Power, Rgb, Span3, Vec3, short_square};
 use lc_terms::{Kind, Spot};
 use std::marker::Model;
 
@@ -106,8 +107,10 @@ impl Kind for SunKind {
     }
 
     fn top(spot: &Spot, clump: &SunClump) -> Rgb {
-        let cosine = cos_top(spot.n, clump.span, clump.least as u128);
-        scaled_total(GEOMETRY, cosine, spot.kd, clump.total)
+        let Some(reflection) = reflection_top(spot, clump.span, clump.least as u128) else {
+            return Rgb { r: 0, g: 0, b: 0 };
+        };
+        scaled_total(GEOMETRY, spot, reflection, clump.total)
     }
 }
 

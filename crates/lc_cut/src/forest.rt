@@ -2,7 +2,7 @@
 ghost use Rattle.std.specs.Prelude.{◌≡◌, ◌+◌, ◌-◌, ◌*◌, ◌^◌, ◌≤◌, ◌⊎◌, IfOk};
 ghost use Rattle.lc_num.specs.Channels.{IsRgbWithin};
 ghost use Rattle.lc_light.specs.Lights.{AreLights};
-ghost use Rattle.lc_terms.specs.Spot.{IsMatte, IsSpot};
+ghost use Rattle.lc_terms.specs.Spot.{IsSpot};
 ghost use Rattle.lc_rated.specs.Cuts.{IsFraction, IsNear, answer};
 ghost use Rattle.lc_cut.specs.Contribution.{plain};
 ghost use Rattle.lc_cut.specs.Forest.{IsForest, forest_of, light_count, lights_of, trees_of};
@@ -66,7 +66,7 @@ fn known(forest: &Forest)
     forest.sun.count();
 }
 
-/// The light at a matte spot among the triangles of a scene, by the best-first cut through the three trees: the answer of
+/// The light at a spot among the triangles of a scene, by the best-first cut through the three trees: the answer of
 /// the first cut whose bound is at most `permille` thousandths of its estimate in each channel, or that has the greatest
 /// size. Each root and each refinement evaluates one light, which counts one step. It takes no memory.
 pub fn cut<T: Triangles, L: Ledger>(
@@ -80,7 +80,6 @@ pub fn cut<T: Triangles, L: Ledger>(
     requires bench { bench.old ≡ ask.size }
     requires few { light_count (lights_of forest.now) ≤ 65536 }
     requires spot { IsSpot spot.now }
-    requires matte { IsMatte spot.now }
     requires least { 3 ≤ ask.size }
     requires permille { ask.permille ≤ 1000 }
     ensures value { result ≡ answer ask.size ask.permille (trees_of (T.list scene.now) spot.now forest.now) }

@@ -1,5 +1,5 @@
 // A forest at one spot of a scene.
-ghost use Rattle.lc_terms.specs.Spot.{IsMatte, IsSpot};
+ghost use Rattle.lc_terms.specs.Spot.{IsSpot};
 
 use crate::forest::Forest;
 use crate::node::{root, split};
@@ -9,12 +9,12 @@ use lc_rated::{Found, LightKind, Lighting, Split};
 use lc_terms::Spot;
 use std::sync::ledger::Ledger;
 
-/// The trees of a forest at a matte spot among the triangles of a scene.
+/// The trees of a forest at a spot among the triangles of a scene.
 pub(crate) struct LitForest<'a, T: Triangles> {
     pub(crate) forest: &'a Forest,
     pub(crate) spot: &'a Spot,
     pub(crate) scene: &'a T,
-    ghost valid: { IsSpot spot.now × IsMatte spot.now },
+    ghost valid: { IsSpot spot.now },
 }
 
 impl<T: Triangles> Drop for LitForest<'_, T> {

@@ -2,7 +2,7 @@
 ghost use Rattle.std.specs.Prelude.{◌≡◌, ◌+◌, ◌*◌, ◌^◌, ◌<◌, ◌≤◌, Some, if◌then◌else◌, is_some, IsSomeAnd};
 ghost use Rattle.lc_num.specs.Channels.{IsPowerWithin, IsRgbWithin};
 ghost use Rattle.lc_terms.specs.Channels.{by_power};
-ghost use Rattle.lc_terms.specs.Spot.{IsMatte, IsSpot};
+ghost use Rattle.lc_terms.specs.Spot.{IsSpot};
 ghost use Rattle.lc_tree.specs.Node.{count_of, kids_of, leader, members, node_of};
 ghost use Rattle.lc_tree.specs.Cover.{power_sum};
 ghost use Rattle.lc_tree.specs.Rows.{IsTreeIf};
@@ -69,7 +69,6 @@ fn estimate<K: Kind>(tree: &Tree<K>, node: u32, factor: Rgb) -> Rgb
 /// The bound of a node.
 fn bound<K: Kind>(tree: &Tree<K>, node: u32, spot: &Spot) -> Rgb
     requires spot { IsSpot spot.now }
-    requires matte { IsMatte spot.now }
     requires node { node < count_of tree.now.root }
     ensures { IsSomeAnd (node_of tree.now.root node) (λ t. result ≡ bound_of K.meaning spot.now t) }
 {
@@ -83,7 +82,6 @@ fn bound<K: Kind>(tree: &Tree<K>, node: u32, spot: &Spot) -> Rgb
 /// What is found of a node whose representative has this factor.
 fn found<K: Kind>(tree: &Tree<K>, node: u32, spot: &Spot, factor: Rgb) -> Found<Rgb>
     requires spot { IsSpot spot.now }
-    requires matte { IsMatte spot.now }
     requires node { node < count_of tree.now.root }
     requires factor { IsRgbWithin (20_000 * 65_536 * 10 ^ 13) factor }
     ensures node { result.node ≡ node }
@@ -109,7 +107,6 @@ fn factor<K: Kind, T: Triangles, L: Ledger>(
     steps: &mut Steps<L>,
 ) -> Rgb
     requires spot { IsSpot spot.now }
-    requires matte { IsMatte spot.now }
     requires node { node < count_of tree.now.root }
     ensures factor { IsFactor K.meaning (T.list scene.now) spot.now tree.now.root node result }
     ensures steps { steps.new ≡ steps.old + 1 }
@@ -137,7 +134,6 @@ fn factors<K: Kind, T: Triangles, L: Ledger>(
     steps: &mut Steps<L>,
 ) -> (Rgb, Rgb)
     requires spot { IsSpot spot.now }
-    requires matte { IsMatte spot.now }
     requires node { node < count_of tree.now.root }
     requires kids { IsSomeAnd (node_of tree.now.root node) (λ t. Some (left, right) ≡ kids_of node t) }
     requires kept { IsFactor K.meaning (T.list scene.now) spot.now tree.now.root node kept }
@@ -161,7 +157,6 @@ pub(crate) fn root<K: Kind, T: Triangles, L: Ledger>(
     steps: &mut Steps<L>,
 ) -> Option<Found<Rgb>>
     requires spot { IsSpot spot.now }
-    requires matte { IsMatte spot.now }
     ensures root { IsRoot (IsFactor K.meaning (T.list scene.now) spot.now tree.now.root) (lit_root K.meaning (T.list scene.now) spot.now tree.now.root) result }
     ensures steps { steps.new ≡ steps.old + (if is_some result then 1 else 0) }
 {
@@ -182,7 +177,6 @@ pub(crate) fn split<K: Kind, T: Triangles, L: Ledger>(
     steps: &mut Steps<L>,
 ) -> Option<Split<Rgb>>
     requires spot { IsSpot spot.now }
-    requires matte { IsMatte spot.now }
     requires node { node < count_of tree.now.root }
     requires kept { IsFactor K.meaning (T.list scene.now) spot.now tree.now.root node kept }
     ensures split { IsSomeAnd (node_of tree.now.root node) (λ t. IsSplit (IsFactor K.meaning (T.list scene.now) spot.now tree.now.root) node (lit K.meaning (T.list scene.now) spot.now t) result) }

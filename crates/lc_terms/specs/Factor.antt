@@ -1,18 +1,29 @@
 -- The material term of a spot, and the factor of a light that is seen there.
-use Rattle.std.specs.Prelude.{ℕ, ◌*◌}
+use Rattle.std.specs.Prelude.{ℕ, ◌+◌, ◌*◌, ◌==◌, if◌then◌else◌}
+use Rattle.lc_num.specs.Channels.{black}
 use Rattle.lc_num.specs.Cosines.{cos16}
+use Rattle.lc_num.specs.Powers.{pow16}
 use Rattle.lc_num.specs.declared.vectors.Vec3.{Vec3}
 use Rattle.lc_num.specs.declared.channels.Rgb.{Rgb}
 use Rattle.lc_terms.specs.Channels.{times}
 use Rattle.lc_terms.specs.declared.spot.Spot.{Spot}
 
--- the material term of a matte spot for light from b: the diffuse colour times the cosine to the normal
-abbrev pub material : Spot → Vec3 → Rgb
-material spot b = record {
-  r = spot.kd.r * cos16 spot.n b;
-  g = spot.kd.g * cos16 spot.n b;
-  b = spot.kd.b * cos16 spot.n b;
+-- the diffuse colour by a cosine, and the specular colour by a highlight
+abbrev pub reflected : Spot → ℕ → ℕ → Rgb
+reflected spot cosine highlight = record {
+  r = spot.kd.r * cosine + spot.ks.r * highlight;
+  g = spot.kd.g * cosine + spot.ks.g * highlight;
+  b = spot.kd.b * cosine + spot.ks.b * highlight;
 }
+
+-- the material term by the cosine to the normal and the one to the mirrored view, whose power is the highlight: nothing
+-- where the light does not come from the side of the normal
+unfoldable pub material_by : Spot → ℕ → ℕ → Rgb
+material_by spot cosine mirrored = if cosine == 0 then black else reflected spot cosine (pow16 mirrored spot.ns)
+
+-- the material term for light from b
+abbrev pub material : Spot → Vec3 → Rgb
+material spot b = material_by spot (cos16 spot.n b) (cos16 spot.r b)
 
 -- the geometric term times the material term, for light from b that nothing blocks
 abbrev pub factor : Spot → Vec3 → ℕ → Rgb

@@ -1,5 +1,5 @@
 -- What bounds the factor of a light that is seen bounds it also where something blocks the light.
-use Rattle.std.proofs.Common.{◌≤◌, Bool, true, false, List, if◌then◌else◌, arith}
+use Rattle.std.proofs.Common.{Bool, true, false, List, if◌then◌else◌, arith}
 use Rattle.lc_num.specs.Channels.{black}
 use Rattle.lc_num.specs.declared.channels.Rgb.{Rgb}
 use Rattle.lc_geom.specs.declared.triangle.Tri.{Tri}
@@ -8,7 +8,7 @@ use Rattle.lc_terms.specs.Factor.{factor}
 use Rattle.lc_terms.specs.Kind.{Meaning, is_seen, factor_of}
 use Rattle.lc_terms.specs.declared.spot.Spot.{Spot}
 
-black-below : (most : Rgb) → IsAtMost most black
+pub black-below : (most : Rgb) → IsAtMost most black
 black-below most = record { r = omega arith; g = omega arith; b = omega arith }
 
 seen-below : (most c : Rgb) (seen : Bool) → IsAtMost most c → IsAtMost most (if seen then c else black)

@@ -11,7 +11,3 @@ pub record IsSpot (spot : Spot) : Type 0 where
   pub kd : IsColourWithin 10000 spot.kd
   pub ks : IsColourWithin 10000 spot.ks
   pub ns : spot.ns ≤ 1000
-
--- the surface has no highlight
-abbrev pub IsMatte : Spot → Type 0
-IsMatte spot = IsColourWithin 0 spot.ks

@@ -2,7 +2,7 @@
 ghost use Rattle.std.specs.Prelude.{◌≡◌, ◌+◌, ◌≤◌};
 ghost use Rattle.lc_num.specs.Vectors.{Within};
 ghost use Rattle.lc_terms.specs.Kind.{Laws, Meaning};
-ghost use Rattle.lc_terms.specs.Spot.{IsMatte, IsSpot};
+ghost use Rattle.lc_terms.specs.Spot.{IsSpot};
 
 use crate::spot::Spot;
 use lc_num::{Power, Rgb, Vec3};
@@ -62,11 +62,10 @@ pub trait Kind {
         requires { meaning.valid_clump clump.now }
         ensures { result ≡ meaning.total clump.now };
 
-    /// The most that the lights of a clump can give to a matte spot, whichever of them stands for the others: a bound
+    /// The most that the lights of a clump can give to a spot, whichever of them stands for the others: a bound
     /// of their factors times the summed intensity.
     fn top(spot: &Spot, clump: &Self::Clump) -> Rgb
         requires spot { IsSpot spot.now }
-        requires matte { IsMatte spot.now }
         requires clump { meaning.valid_clump clump.now }
         ensures { result ≡ meaning.top spot.now clump.now };
 

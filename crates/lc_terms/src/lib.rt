@@ -3,10 +3,12 @@
 
 mod factor;
 mod kind;
+mod reflection;
 mod spot;
 
-pub use factor::{eval, material};
+pub use factor::{eval, factor_of};
 pub use kind::Kind;
+pub use reflection::material;
 pub use spot::Spot;
 
 #[cfg(test)]

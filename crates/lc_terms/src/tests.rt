@@ -1,7 +1,7 @@
 // The material term by hand, and the factor of a light through the trait.
 ghost use Rattle.std.specs.Prelude.{◌≡◌, ◌<◌, ◌≤◌};
 ghost use Rattle.lc_terms.specs.Lamps.{lamp_laws, lamp_meaning};
-ghost use Rattle.lc_terms.specs.Spot.{IsMatte, IsSpot};
+ghost use Rattle.lc_terms.specs.Spot.{IsSpot};
 
 use super::*;
 use lc_geom::{Hit, Triangles};
@@ -83,7 +83,6 @@ impl Triangles for Open {
 
 fn spot() -> Spot
     ensures spot { IsSpot result }
-    ensures matte { IsMatte result }
 {
     Spot {
         x: Vec3 { x: 0, y: 0, z: 0 },
@@ -136,6 +135,76 @@ fn materials(rt: HostRuntime) {
             g: 262_140_000,
             b: 0
         }
+    );
+}
+
+/// A spot with a mirrored view straight up and a specular colour, and no diffuse one.
+fn shiny(ns: u32) -> Spot
+    requires { ns ≤ 1000 }
+    ensures { IsSpot result }
+{
+    Spot {
+        r: Vec3 {
+            x: 0,
+            y: 0,
+            z: 16384,
+        },
+        kd: Colour { r: 0, g: 0, b: 0 },
+        ks: Colour {
+            r: 10000,
+            g: 5000,
+            b: 0,
+        },
+        ns,
+        ..spot()
+    }
+}
+
+#[test]
+fn highlights(rt: HostRuntime) {
+    let above = Vec3 {
+        x: 0,
+        y: 0,
+        z: 10000,
+    };
+    let slanted = Vec3 { x: 3, y: 0, z: 4 };
+    let below = Vec3 { x: 0, y: 0, z: -1 };
+    let whole = Rgb {
+        r: 655_360_000,
+        g: 327_680_000,
+        b: 0,
+    };
+    // Toward the mirrored view every power is 1. The cosine 4/5 is 52428 of 65536, its square 41941 and its cube 33552,
+    // each rounded down.
+    assert_eq!(rt; material(&shiny(1000), above), whole);
+    assert_eq!(rt; material(&shiny(0), slanted), whole);
+    assert_eq!(rt;
+        material(&shiny(1), slanted),
+        Rgb {
+            r: 524_280_000,
+            g: 262_140_000,
+            b: 0
+        }
+    );
+    assert_eq!(rt;
+        material(&shiny(3), slanted),
+        Rgb {
+            r: 335_520_000,
+            g: 167_760_000,
+            b: 0
+        }
+    );
+    // The highlight is nothing where the light comes from below the surface.
+    assert_eq!(rt; material(&shiny(0), below), Rgb { r: 0, g: 0, b: 0 });
+    // A zero vector has the cosine 0, whose power 0 is 1, and whose other powers are 0.
+    let flat = Spot {
+        r: Vec3 { x: 0, y: 0, z: 0 },
+        ..shiny(0)
+    };
+    assert_eq!(rt; material(&flat, above), whole);
+    assert_eq!(rt;
+        material(&Spot { ns: 1, ..flat }, above),
+        Rgb { r: 0, g: 0, b: 0 }
     );
 }
 

@@ -126,6 +126,14 @@ impl<K: Kind> Tree<K> {
         self.lights[number as usize]
     }
 
+    /// All lights, by their numbers.
+    pub fn lights(&self) -> &[K::Light]
+        ensures lights { result.now ≡ self.now.lights }
+        ensures valid { All K.meaning.valid_light result.now }
+    {
+        &self.lights
+    }
+
     /// The sum of the three channels of a node's summed intensity, in units of 1/10000.
     pub fn weight(&self, node: u32) -> u64
         requires { node < count_of self.now.root }

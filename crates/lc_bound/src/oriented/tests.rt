@@ -1,7 +1,7 @@
 // Two lights in front of a spot, worked out by hand: the cosines are 4/5, which is 52428 in 1/65536.
 ghost use Rattle.std.specs.Prelude.{◌≡◌};
 ghost use Rattle.lc_light.specs.Lights.{IsOriented};
-ghost use Rattle.lc_terms.specs.Spot.{IsMatte, IsSpot};
+ghost use Rattle.lc_terms.specs.Spot.{IsSpot};
 ghost use Rattle.lc_bound.specs.Oriented.{IsClump, one};
 
 use super::*;
@@ -62,7 +62,6 @@ fn lamp_that_shines_up() -> Oriented
 
 fn ground() -> Spot
     ensures spot { IsSpot result }
-    ensures matte { IsMatte result }
 {
     Spot {
         x: ORIGIN,

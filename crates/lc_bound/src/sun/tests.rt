@@ -1,7 +1,7 @@
 // Two suns, one over a level spot and one at its horizon, worked out by hand.
 ghost use Rattle.std.specs.Prelude.{◌≡◌};
 ghost use Rattle.lc_light.specs.Lights.{IsSun};
-ghost use Rattle.lc_terms.specs.Spot.{IsMatte, IsSpot};
+ghost use Rattle.lc_terms.specs.Spot.{IsSpot};
 ghost use Rattle.lc_bound.specs.Sun.{IsClump, one};
 
 use super::*;
@@ -38,7 +38,6 @@ fn level() -> Sun
 
 fn ground() -> Spot
     ensures spot { IsSpot result }
-    ensures matte { IsMatte result }
 {
     Spot {
         x: ORIGIN,
@@ -118,4 +117,29 @@ fn two_suns_may_all_shine_from_above(rt: HostRuntime) {
         b: 0,
     };
     assert_eq!(rt; SunKind::top(&ground(), &clump), top);
+}
+
+#[test]
+fn a_highlight_counts_by_its_own_colour(rt: HostRuntime) {
+    // The mirrored view is slanted as 3 to 4, so its cosine to the sun overhead is 52428 of 65536, and the square 41941.
+    let spot = Spot {
+        r: Vec3 {
+            x: 12_288,
+            y: 0,
+            z: 16_384,
+        },
+        ks: Colour {
+            r: 10_000,
+            g: 0,
+            b: 5_000,
+        },
+        ns: 2,
+        ..ground()
+    };
+    let top = Rgb {
+        r: 1_074_770_000_000_000_000,
+        g: 655_360_000_000_000_000,
+        b: 629_115_000_000_000_000,
+    };
+    assert_eq!(rt; SunKind::top(&spot, &of_one(&overhead())), top);
 }

@@ -1,28 +1,25 @@
 use Rattle.std.proofs.Common.{◌≡◌, inl, arith}
-use Rattle.lc_num.specs.Boxes.{cos_top, emit_top, near2}
+use Rattle.lc_num.specs.Boxes.{emit_top, near2}
 use Rattle.lc_bound.specs.Hull.{box_from, box_to}
 use Rattle.lc_bound.specs.HullLaws.{box_from-within, box_to-within}
-use Rattle.lc_bound.specs.Oriented.{geometry_top}
-use Rattle.lc_bound.specs.Reach.{falloff}
-use Rattle.lc_bound.proofs.CodeLemmas.{black_top, dark_top}
+use Rattle.lc_bound.specs.Reach.{falloff, material_top}
+use Rattle.lc_bound.proofs.CodeLemmas.{dark_top}
 use Rattle.lc_bound.proofs.oriented.OrientedKindKind.top.Goals as goal
 
-pub cos_top-cosine-requires-clause-n : goal.cos_top-cosine-requires-clause-n
-cos_top-cosine-requires-clause-n c =
+pub reflection_top-requires-clause-normal : goal.reflection_top-requires-clause-normal
+reflection_top-requires-clause-normal c =
     let valid = rw (← c.clump.view_is) at c.requires.clump in
     rw c.box_from.ensures (inl (c.requires.spot.n, box_from-within 50_100_000 50_000_000 c.args.spot.now.x c.clump.inside.span c.requires.spot.x valid.box))
 
-pub cos_top-cosine-requires-clause-least : goal.cos_top-cosine-requires-clause-least
-cos_top-cosine-requires-clause-least c =
+pub reflection_top-requires-clause-mirrored : goal.reflection_top-requires-clause-mirrored
+reflection_top-requires-clause-mirrored c =
+    let valid = rw (← c.clump.view_is) at c.requires.clump in
+    rw c.box_from.ensures (inl (c.requires.spot.r, box_from-within 50_100_000 50_000_000 c.args.spot.now.x c.clump.inside.span c.requires.spot.x valid.box))
+
+pub reflection_top-requires-clause-least : goal.reflection_top-requires-clause-least
+reflection_top-requires-clause-least c =
     let valid = rw (← c.clump.view_is) at c.requires.clump in
     c.near2-near.ensures.within 50_100_000 50_000_000 c.requires.spot.x valid.box
-
-pub returns-then-cosine-eq0 : goal.returns-then-cosine-eq0
-returns-then-cosine-eq0 c =
-    let e = rw (c.box_from.ensures, c.near2-near.ensures.value) at c.cos_top-cosine.ensures.value in
-    let none : cos_top c.args.spot.now.n (box_from c.args.spot.now.x c.clump.inside.span) (near2 c.args.spot.now.x c.clump.inside.span) ≡ 0 = cc in
-    rw (← c.clump.view_is)
-    (black_top c.args.spot.now (box_from c.args.spot.now.x c.clump.inside.span) (near2 c.args.spot.now.x c.clump.inside.span) (geometry_top c.args.spot.now.x (record { box = c.clump.inside.span; normals = c.clump.inside.normals; least = c.clump.inside.least; total = c.clump.inside.total; count = c.clump.inside.count })) c.clump.inside.total none)
 
 pub emit_top-emission-requires-clause-offsets : goal.emit_top-emission-requires-clause-offsets
 emit_top-emission-requires-clause-offsets c =
@@ -39,7 +36,7 @@ returns-then-emission-eq0 c =
     let e = rw (c.box_to-offsets.ensures, c.near2-near.ensures.value) at c.emit_top-emission.ensures.value in
     let none : emit_top c.clump.inside.normals c.clump.inside.least (box_to c.args.spot.now.x c.clump.inside.span) (near2 c.args.spot.now.x c.clump.inside.span) ≡ 0 = cc in
     rw (← c.clump.view_is)
-    (dark_top c.args.spot.now (box_from c.args.spot.now.x c.clump.inside.span) (near2 c.args.spot.now.x c.clump.inside.span) (emit_top c.clump.inside.normals c.clump.inside.least (box_to c.args.spot.now.x c.clump.inside.span) (near2 c.args.spot.now.x c.clump.inside.span)) (falloff (near2 c.args.spot.now.x c.clump.inside.span)) c.clump.inside.total none)
+    (dark_top (emit_top c.clump.inside.normals c.clump.inside.least (box_to c.args.spot.now.x c.clump.inside.span) (near2 c.args.spot.now.x c.clump.inside.span)) (falloff (near2 c.args.spot.now.x c.clump.inside.span)) (material_top c.args.spot.now (box_from c.args.spot.now.x c.clump.inside.span) (near2 c.args.spot.now.x c.clump.inside.span)) c.clump.inside.total none)
 
 pub overflow_cast-near : goal.overflow_cast-near
 overflow_cast-near c =

@@ -127,7 +127,7 @@ camera_valid ls pass =
       view = said_or (InRange 1 100000) amount 5000 (line_of ls key.View) (λ l e. amount_range 100000 (values_in l.bytes) (pass key.View l e)) (omega arith, omega arith);
       width = sides.width;
       height = sides.height;
-      grid = said_or (InRange 1 16) (whole_at 0) 1 (line_of ls key.Grid) (λ l e. let r = whole_range 1 1 (values_in l.bytes) (pass key.Grid l e) in (r.0, omega (arith, r.1))) (omega arith, omega arith);
+      grid = said_or (InRange 1 16) (whole_at 0) 1 (line_of ls key.Grid) (λ l e. let r = whole_range 1 16 (values_in l.bytes) (pass key.Grid l e) in (r.0, omega (arith, r.1))) (omega arith, omega arith);
     }
 
 job_valid_of : (ls : List Line) → ((k : Key) (l : Line) → line_of ls k ≡ Some l → first_kind (tests k (rest l.bytes) (values_in l.bytes)) ≡ None) → IsJob (made (draft_of ls))

@@ -108,7 +108,7 @@ whole_tests least most values = unless (are_wholes 1 values) kind.Form ∷ unles
 
 -- the most samples on a side of a pixel
 abbrev pub most_grid : ℕ
-most_grid = 1
+most_grid = 16
 
 -- the tests of a keyword's name or values, in their order
 abbrev pub tests : Key → List ℕ → List (List ℕ) → List (Option Kind)

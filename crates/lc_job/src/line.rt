@@ -20,7 +20,7 @@ use std::alloc::Global;
 const MOST_VIEW: u64 = 100_000;
 
 // The samples on a side of a pixel.
-const MOST_GRID: u64 = 1;
+const MOST_GRID: u64 = 16;
 
 const MOST_PERMILLE: u64 = 1_000;
 

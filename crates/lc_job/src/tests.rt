@@ -107,7 +107,6 @@ fn one_line_more(rt: HostRuntime) {
         (b"seed 18446744073709551616", 3),
         (b"cut 65537", 4),
         (b"grid 17", 4),
-        (b"grid 2", 4),
         (b"grid 0", 4),
         (b"error 1001", 4),
         (b"view 0", 4),
@@ -142,7 +141,7 @@ fn one_line_more(rt: HostRuntime) {
         b"white 10000",
         b"view 10",
         b"view 0.0001",
-        b"grid 1",
+        b"grid 16",
         b"# zoom 3",
     ] {
         assert_eq!(rt;

@@ -1,9 +1,10 @@
 -- The spots that rays find are valid, and what the sample there says of the sum over all lights.
 use Rattle.std.proofs.Common.{◌≡◌, ℕ, ◌-◌, ◌*◌, ◌^◌, ◌≤◌, ◌⊎◌, inr, arith, Bool, true, false, Option, Some, None, List, ℤ, pos, refl, sym, ap, ◌∙◌, slice_get, unsigned_abs, ◌-ℤ◌}
-use Rattle.std.specs.Prelude.{IfSome, int_lt, if◌then◌else◌, option_map, option_and_then}
+use Rattle.std.specs.Prelude.{IfSome, int_lt, ◌==◌, if◌then◌else◌, option_map, option_and_then}
 use Rattle.std.proofs.lemmas.Int.{ints}
-use Rattle.lc_num.specs.Channels.{IsRgbWithin}
-use Rattle.lc_num.specs.Vectors.{Within, difference, zero_vector}
+use Rattle.lc_num.specs.Channels.{IsRgbWithin, black}
+use Rattle.lc_num.specs.Vectors.{Within, difference, dot, square, zero_vector}
+use Rattle.lc_num.specs.declared.channels.Rgb.{Rgb}
 use Rattle.lc_num.specs.declared.vectors.Vec3.{Vec3}
 use Rattle.lc_num.proofs.ScaledLemmas.{scaled_within}
 use Rattle.lc_geom.specs.Crossing.{side}
@@ -11,19 +12,22 @@ use Rattle.lc_geom.specs.Hits.{nearest}
 use Rattle.lc_geom.specs.Triangles.{across, normal_of}
 use Rattle.lc_geom.specs.declared.hit.Hit.{Hit}
 use Rattle.lc_geom.specs.declared.triangle.Tri.{Tri}
+use Rattle.lc_obj.specs.declared.mesh.Triple.{Triple}
 use Rattle.lc_terms.specs.Spot.{IsSpot}
 use Rattle.lc_terms.specs.declared.spot.Spot.{Spot}
 use Rattle.lc_rated.specs.Cuts.{IsFraction, IsNear, answer}
 use Rattle.lc_rated.specs.declared.answer.Answer.{Answer}
 use Rattle.lc_rated.proofs.CutSequence.{fraction, size_most, evals_most}
-use Rattle.lc_cut.specs.Forest.{trees_of}
+use Rattle.lc_cut.specs.Contribution.{plain}
+use Rattle.lc_cut.specs.Forest.{lights_of, trees_of}
 use Rattle.lc_cut.proofs.Whole.{answer_near, trees_limited}
 use Rattle.lc_cut.proofs.SumLimits.{answer_est_within, answer_bound_within}
 use Rattle.lc_view.specs.declared.ray.Ray.{Ray}
 use Rattle.lc_sample.specs.declared.surface.Surface.{Surface}
 use Rattle.lc_sample.specs.Surfaces.{IsSurface}
 use Rattle.lc_sample.specs.Scenes.{SceneParts, IsScene, triangles_of}
-use Rattle.lc_sample.specs.Spots.{facing, spot_on}
+use Rattle.lc_sample.specs.Normals.{facing, normal_at, normal_by, smooth, turned}
+use Rattle.lc_sample.specs.Spots.{spot_on}
 use Rattle.lc_sample.specs.Sampled.{spot_of, spot_seen, no_answer, answer_at, sample_of, light_at, light_of}
 use Rattle.lc_sample.proofs.SurfaceLemmas.{surface_at}
 use Rattle.lc_sample.proofs.SpotLemmas.{lifted_within}
@@ -33,23 +37,46 @@ use Rattle.lc_sample.proofs.SpotLemmas.{lifted_within}
 negated : (m : ℕ) (z : ℤ) → unsigned_abs z ≤ m → unsigned_abs (pos 0 -ℤ z) ≤ m
 negated m z h = omega (arith, ints)
 
+negated_within : (v : Vec3) → Within 16384 v → Within 16384 (difference zero_vector v)
+negated_within v h = record { x = negated 16384 v.x h.x; y = negated 16384 v.y h.y; z = negated 16384 v.z h.z }
+
 pub facing_within : (e : Vec3) (t : Tri) → Within 16384 (facing e t)
 facing_within e t = at (int_lt (side t e) (pos 0)) where
   n : Within 16384 (normal_of t)
   n = scaled_within (across t) 16384
 
   at : (b : Bool) → Within 16384 (if b then difference zero_vector (normal_of t) else normal_of t)
-  at true = record { x = negated 16384 (normal_of t).x n.x; y = negated 16384 (normal_of t).y n.y; z = negated 16384 (normal_of t).z n.z }
+  at true = negated_within (normal_of t) n
   at false = n
+
+turned_within : (seen n : Vec3) → Within 16384 seen → Within 16384 n → Within 16384 (turned seen n)
+turned_within seen n hs hn = at (square n == 0) (int_lt (dot n seen) (pos 0)) where
+  at : (none behind : Bool) → Within 16384 (if none then seen else (if behind then difference zero_vector n else n))
+  at true behind = hs
+  at false true = negated_within n hn
+  at false false = hn
+
+smooth_within : (ray : Ray) (t : Tri) (seen : Vec3) (normals : Triple) → Within 16384 seen → Within 16384 (smooth ray t seen normals)
+unfolding smooth
+smooth_within ray t seen normals h = turned_within seen _ h (scaled_within _ 16384)
+
+normal_within : (ray : Ray) (surface : Surface) → Within 16384 (normal_at ray surface)
+normal_within ray surface = at surface.normals where
+  seen : Within 16384 (facing ray.e surface.tri)
+  seen = facing_within ray.e surface.tri
+
+  at : (o : Option Triple) → Within 16384 (normal_by ray surface.tri (facing ray.e surface.tri) o)
+  at None = seen
+  at (Some normals) = smooth_within ray surface.tri (facing ray.e surface.tri) normals seen
 
 pub spot_valid : (ray : Ray) (depth : ℕ) (surface : Surface) → IsSurface surface → IsSpot (spot_on ray depth surface)
 unfolding spot_on
 spot_valid ray depth surface h = record {
   x = lifted_within _ (facing ray.e surface.tri);
-  n = facing_within ray.e surface.tri;
+  n = normal_within ray surface;
   r = scaled_within _ 16384;
   kd = h.reflectance.kd;
-  ks = record { r = omega arith; g = omega arith; b = omega arith };
+  ks = h.reflectance.ks;
   ns = h.reflectance.ns;
 }
 
@@ -91,6 +118,18 @@ sample_some size permille parts scene ray spot ts a kept same h e =
     (e
     ∙ ap (λ (us : List Tri). answer size permille (trees_of us spot parts.forest)) kept
     ∙ ap (λ (s : SceneParts). answer size permille (trees_of (triangles_of s) spot s.forest)) same)
+
+pub light_none : (scene : SceneParts) (ray : Ray) → spot_seen scene ray ≡ None → black ≡ light_of scene ray
+unfolding light_of
+light_none scene ray h = rw h refl
+
+pub light_some : (parts scene : SceneParts) (ray : Ray) (spot : Spot) (ts : List Tri) (light : Rgb) → ts ≡ triangles_of parts → parts ≡ scene → spot_seen scene ray ≡ Some spot → light ≡ plain ts spot (lights_of parts.forest) → light ≡ light_of scene ray
+unfolding light_of
+light_some parts scene ray spot ts light kept same h e =
+    rw h
+    (e
+    ∙ ap (λ (us : List Tri). plain us spot (lights_of parts.forest)) kept
+    ∙ ap (λ (s : SceneParts). plain (triangles_of s) spot (lights_of s.forest)) same)
 
 -- ---- what it says
 

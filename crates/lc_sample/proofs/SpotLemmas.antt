@@ -12,7 +12,8 @@ use Rattle.lc_num.specs.declared.channels.Colour.{Colour}
 use Rattle.lc_terms.specs.declared.spot.Spot.{Spot}
 use Rattle.lc_view.specs.declared.ray.Ray.{Ray}
 use Rattle.lc_sample.specs.declared.surface.Surface.{Surface}
-use Rattle.lc_sample.specs.Spots.{part_at, place_at, facing, lifted, off_surface, mirrored_part, mirrored_view, spot_on}
+use Rattle.lc_sample.specs.Normals.{facing, normal_at}
+use Rattle.lc_sample.specs.Spots.{part_at, place_at, lifted, off_surface, mirrored_part, mirrored_view, spot_on}
 
 pub within_more : (m n : ℕ) (v : Vec3) → m ≤ n → Within m v → Within n v
 within_more m n v less h = record { x = omega (arith, h.x); y = omega (arith, h.y); z = omega (arith, h.z) }
@@ -112,9 +113,9 @@ spot_parts : (x n r x' n' r' : Vec3) (kd ks : Colour) (ns : ℕ) → x ≡ x' �
     → ◌≡◌ {A = Spot} (record { x = x; n = n; r = r; kd = kd; ks = ks; ns = ns }) (record { x = x'; n = n'; r = r'; kd = kd; ks = ks; ns = ns })
 spot_parts x n r x' n' r' kd ks ns ex en er = cc
 
-pub spot_is : (ray : Ray) (depth : ℕ) (surface : Surface) (x n r place : Vec3) → n ≡ facing ray.e surface.tri → place ≡ place_at ray depth → x ≡ off_surface place n → r ≡ mirrored_view ray.e x n
-    → ◌≡◌ {A = Spot} (record { x = x; n = n; r = r; kd = surface.reflectance.kd; ks = record { r = 0; g = 0; b = 0 }; ns = surface.reflectance.ns }) (spot_on ray depth surface)
+pub spot_is : (ray : Ray) (depth : ℕ) (surface : Surface) (x seen n r place : Vec3) → seen ≡ facing ray.e surface.tri → n ≡ normal_at ray surface → place ≡ place_at ray depth → x ≡ off_surface place seen → r ≡ mirrored_view ray.e x n
+    → ◌≡◌ {A = Spot} (record { x = x; n = n; r = r; kd = surface.reflectance.kd; ks = surface.reflectance.ks; ns = surface.reflectance.ns }) (spot_on ray depth surface)
 unfolding spot_on
-spot_is ray depth surface x n r place hn hp hx hr =
-    let ex : x ≡ off_surface (place_at ray depth) (facing ray.e surface.tri) = hx ∙ ap₂ off_surface hp hn in
-    spot_parts x n r _ _ _ surface.reflectance.kd _ surface.reflectance.ns ex hn (hr ∙ ap₂ (mirrored_view ray.e) ex hn)
+spot_is ray depth surface x seen n r place hs hn hp hx hr =
+    let ex : x ≡ off_surface (place_at ray depth) (facing ray.e surface.tri) = hx ∙ ap₂ off_surface hp hs in
+    spot_parts x n r _ _ _ surface.reflectance.kd surface.reflectance.ks surface.reflectance.ns ex hn (hr ∙ ap₂ (mirrored_view ray.e) ex hn)

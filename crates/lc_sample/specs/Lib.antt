@@ -1,5 +1,6 @@
 pub mod Surfaces
 pub mod Scenes
+pub mod Normals
 pub mod Spots
 pub mod Sampled
 pub use Rattle.lc_num.specs.Vectors
@@ -7,6 +8,7 @@ pub use Rattle.lc_num.specs.Channels
 pub use Rattle.lc_geom.specs.Triangles
 pub use Rattle.lc_geom.specs.Crossing
 pub use Rattle.lc_geom.specs.Hits
+pub use Rattle.lc_geom.specs.Weights
 pub use Rattle.lc_obj.specs.Meshes
 pub use Rattle.lc_mtl.specs.Materials
 pub use Rattle.lc_light.specs.Lights

@@ -1,17 +1,15 @@
 -- The spot of a hit: where the light is gathered, and how the surface sends it back.
-use Rattle.std.specs.Prelude.{ℕ, ◌^◌, List, ℤ, pos, negsuc, ◌+ℤ◌, ◌-ℤ◌, ◌*ℤ◌, int_lt, int_div, if◌then◌else◌}
+use Rattle.std.specs.Prelude.{ℕ, ◌^◌, List, ℤ, pos, negsuc, ◌+ℤ◌, ◌-ℤ◌, ◌*ℤ◌, int_div}
 use Rattle.std.specs.Int.{int_div_euclid, int_min, int_max}
-use Rattle.lc_num.specs.Vectors.{difference, dot, zero_vector}
+use Rattle.lc_num.specs.Vectors.{difference, dot}
 use Rattle.lc_num.specs.Cosines.{scaled}
 use Rattle.lc_num.specs.declared.vectors.Vec3.{Vec3}
-use Rattle.lc_geom.specs.Crossing.{side}
 use Rattle.lc_geom.specs.Hits.{IsHitOf}
-use Rattle.lc_geom.specs.Triangles.{normal_of}
 use Rattle.lc_geom.specs.declared.hit.Hit.{Hit}
 use Rattle.lc_geom.specs.declared.triangle.Tri.{Tri}
-use Rattle.lc_mtl.specs.Settings.{grey}
 use Rattle.lc_terms.specs.declared.spot.Spot.{Spot}
 use Rattle.lc_view.specs.declared.ray.Ray.{Ray}
+use Rattle.lc_sample.specs.Normals.{facing, normal_at}
 use Rattle.lc_sample.specs.declared.surface.Surface.{Surface}
 
 -- a hit of the ray on a triangle of the list
@@ -31,10 +29,6 @@ place_at ray depth = record {
   y = ray.e.y +ℤ part_at depth ray.d.y;
   z = ray.e.z +ℤ part_at depth ray.d.z;
 }
-
--- the normal of the triangle on the side of a place
-abbrev pub facing : Vec3 → Tri → Vec3
-facing e t = if int_lt (side t e) (pos 0) then difference zero_vector (normal_of t) else normal_of t
 
 -- a coordinate, 16 units off along a normal of length 16384, toward zero, and at most 50,100,000 in absolute value
 abbrev pub lifted : ℤ → ℤ → ℤ
@@ -63,17 +57,17 @@ mirrored_view eye place normal = scaled (mirrored normal (scaled (difference eye
 
 -- ---- the spot
 
--- the spot off a surface, by the normal on the side of the eye; so far no surface has a highlight
+-- the spot of a place on a surface, off it on the side of the eye, with the normal n there
 abbrev pub spot_off : Ray → Surface → Vec3 → Vec3 → Spot
-spot_off ray surface place normal = record {
-  x = off_surface place normal;
-  n = normal;
-  r = mirrored_view ray.e (off_surface place normal) normal;
+spot_off ray surface place n = record {
+  x = off_surface place (facing ray.e surface.tri);
+  n = n;
+  r = mirrored_view ray.e (off_surface place (facing ray.e surface.tri)) n;
   kd = surface.reflectance.kd;
-  ks = grey 0;
+  ks = surface.reflectance.ks;
   ns = surface.reflectance.ns;
 }
 
 -- the spot of a hit at this depth on a surface
 unfoldable pub spot_on : Ray → ℕ → Surface → Spot
-spot_on ray depth surface = spot_off ray surface (place_at ray depth) (facing ray.e surface.tri)
+spot_on ray depth surface = spot_off ray surface (place_at ray depth) (normal_at ray surface)

@@ -2,12 +2,15 @@
 #![tactic(auto)]
 
 mod laws;
+mod normal;
+mod plain;
 mod sampling;
 mod scene;
 mod spot;
 mod surface;
 
 pub use laws::sampled_light;
+pub use plain::plain_sample;
 pub use sampling::sample;
 pub use scene::Scene;
 pub use spot::spot_of;

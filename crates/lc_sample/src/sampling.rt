@@ -1,7 +1,7 @@
 // The light at a ray.
 ghost use Rattle.std.specs.Prelude.{◌≡◌, ◌+◌, ◌-◌, ◌*◌, ◌^◌, ◌≤◌, ◌⊎◌, IfSome};
 ghost use Rattle.lc_num.specs.Channels.{IsRgbWithin};
-ghost use Rattle.lc_terms.specs.Spot.{IsMatte, IsSpot};
+ghost use Rattle.lc_terms.specs.Spot.{IsSpot};
 ghost use Rattle.lc_rated.specs.Cuts.{IsFraction, IsNear};
 ghost use Rattle.lc_view.specs.Camera.{IsRay};
 ghost use Rattle.lc_sample.specs.Scenes.{IsScene};
@@ -34,7 +34,6 @@ pub(crate) fn spot_seen(scene: &Scene, ray: Ray) -> Option<Spot>
     requires ray { IsRay ray }
     ensures value { result ≡ spot_seen scene.now ray }
     ensures valid { IfSome result IsSpot }
-    ensures matte { IfSome result IsMatte }
 {
     match scene.triangles.nearest(ray.e, ray.d) {
         None => None,

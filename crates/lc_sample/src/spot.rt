@@ -1,19 +1,20 @@
 // The spots of hits.
-ghost use Rattle.std.specs.Prelude.{◌≡◌, ◌≤◌, ◌<◌, ◌^◌, Some, pos, ◌*ℤ◌, int_div, int_lt, unsigned_abs};
+ghost use Rattle.std.specs.Prelude.{◌≡◌, ◌≤◌, ◌<◌, ◌^◌, Some, true, pos, ◌*ℤ◌, int_div, unsigned_abs};
 ghost use Rattle.lc_num.specs.Vectors.{Within, dot};
-ghost use Rattle.lc_geom.specs.Crossing.{side};
-ghost use Rattle.lc_geom.specs.Triangles.{IsTri};
-ghost use Rattle.lc_terms.specs.Spot.{IsMatte, IsSpot};
+ghost use Rattle.lc_geom.specs.Crossing.{crosses};
+ghost use Rattle.lc_geom.specs.Hits.{moved};
+ghost use Rattle.lc_terms.specs.Spot.{IsSpot};
 ghost use Rattle.lc_view.specs.Camera.{IsRay};
 ghost use Rattle.lc_sample.specs.Scenes.{triangles_of};
 ghost use Rattle.lc_sample.specs.Surfaces.{IsSurface};
-ghost use Rattle.lc_sample.specs.Spots.{IsHit, facing, lifted, mirrored, mirrored_part, mirrored_view, off_surface, part_at, place_at, spot_on};
+ghost use Rattle.lc_sample.specs.Spots.{IsHit, lifted, mirrored, mirrored_part, mirrored_view, off_surface, part_at, place_at, spot_on};
 ghost use Rattle.lc_sample.specs.Sampled.{spot_of as spot_by};
 
+use crate::normal::{facing, normal_at};
 use crate::scene::Scene;
 use crate::surface::Surface;
-use lc_geom::{Hit, Tri, normal_of};
-use lc_num::{Colour, Vec3, cross, difference, dot, scaled};
+use lc_geom::Hit;
+use lc_num::{Vec3, difference, dot, scaled};
 use lc_terms::Spot;
 use lc_view::Ray;
 
@@ -43,31 +44,6 @@ fn place_at(ray: Ray, depth: u32) -> Vec3
         x: ray.e.x + part_at(depth, ray.d.x),
         y: ray.e.y + part_at(depth, ray.d.y),
         z: ray.e.z + part_at(depth, ray.d.z),
-    }
-}
-
-/// Whether a place lies on the side of a triangle from which its normal points away.
-fn is_behind(e: Vec3, t: &Tri) -> bool
-    requires e { Within 50_100_000 e }
-    requires t { IsTri t.now }
-    ensures { result ≡ int_lt (side t.now e) (pos 0) }
-{
-    let across = cross(difference(t.b, t.a), difference(t.c, t.a));
-    dot(across, difference(e, t.a)) < 0
-}
-
-/// The normal of a triangle on the side of a place.
-fn facing(e: Vec3, t: &Tri) -> Vec3
-    requires e { Within 50_100_000 e }
-    requires t { IsTri t.now }
-    ensures value { result ≡ facing e t.now }
-    ensures within { Within 16384 result }
-{
-    let normal = normal_of(t);
-    if is_behind(e, t) {
-        difference(Vec3 { x: 0, y: 0, z: 0 }, normal)
-    } else {
-        normal
     }
 }
 
@@ -157,31 +133,32 @@ fn spot_on(ray: Ray, depth: u32, surface: &Surface) -> Spot
     requires ray { IsRay ray }
     requires depth { depth < 2 ^ 30 }
     requires surface { IsSurface surface.now }
+    requires crosses { crosses ray.e (moved ray.e ray.d) surface.now.tri ≡ true }
     ensures value { result ≡ spot_on ray depth surface.now }
     ensures valid { IsSpot result }
-    ensures matte { IsMatte result }
 {
-    let n = facing(ray.e, &surface.tri);
-    let x = off_surface(place_at(ray, depth), n);
+    let seen = facing(ray.e, &surface.tri);
+    let x = off_surface(place_at(ray, depth), seen);
+    let n = normal_at(ray, surface, seen);
     Spot {
         x,
         n,
         r: mirrored_view(ray.e, x, n),
         kd: surface.reflectance.kd,
-        ks: Colour { r: 0, g: 0, b: 0 },
+        ks: surface.reflectance.ks,
         ns: surface.reflectance.ns,
     }
 }
 
 /// The spot of a ray's hit on a scene: the place of the hit, 16 units off the surface on the side of the ray's beginning;
-/// the triangle's normal on that side; the view to the ray's beginning, mirrored at the normal; and how the surface sends
-/// light back, so far without its highlight.
+/// the normal there, which is that between the normals of the triangle's corners where each has one, turned to that side,
+/// and else the triangle's own; the view to the ray's beginning, mirrored at the normal; and how the surface sends light
+/// back.
 pub fn spot_of(scene: &Scene, ray: Ray, hit: Hit) -> Spot
     requires ray { IsRay ray }
     requires hit { IsHit (triangles_of scene.now) ray hit }
     ensures value { spot_by scene.now ray hit ≡ Some result }
     ensures valid { IsSpot result }
-    ensures matte { IsMatte result }
 {
     spot_on(ray, hit.depth, &scene.surface(hit.number))
 }

@@ -2,7 +2,7 @@
 ghost use Rattle.std.specs.Prelude.{◌≡◌, ◌+◌, [], ◌∷◌, IfOk, Ok, Some};
 ghost use Rattle.lc_num.specs.Vectors.{Within};
 ghost use Rattle.lc_light.specs.Lights.{AreLights};
-ghost use Rattle.lc_terms.specs.Spot.{IsSpot, IsMatte};
+ghost use Rattle.lc_terms.specs.Spot.{IsSpot};
 ghost use Rattle.lc_desk.specs.declared.desk.Slot.TheVariants.{Report};
 ghost use Rattle.lc_record.specs.Record.{IsSample};
 ghost use Rattle.lc_tool.specs.Course.{at_once, told};
@@ -37,7 +37,6 @@ fn spot_at(place: Vec3, direction: Vec3) -> Spot
     requires direction { Within 50_000_000 direction }
     ensures value { result ≡ probe_spot place direction }
     ensures valid { IsSpot result }
-    ensures matte { IsMatte result }
 {
     Spot {
         x: place,

@@ -271,3 +271,69 @@ fn renders_one_job(rt: HostRuntime) -> Result<(), Fail> {
     );
     Ok(())
 }
+
+const WHITE_RECORD: &[u8] =
+    b"LCB 1 1 1 1 1000 20\n1 1 6553600000000000000000 6553600000000000000000 6553600000000000000000 0 0 0\n";
+
+// A black surface whose specular colour is white: the light stands where the view is mirrored, so no exponent weakens it.
+#[test]
+fn renders_highlights(rt: HostRuntime) -> Result<(), Fail> {
+    let scene = format!(in rt.alloc(); "mtllib x.mtl\nusemtl a\n{SCENE}")?;
+    for exponent in ["0", "1", "1000"] {
+        let library = format!(in rt.alloc(); "newmtl a\nKd 0\nKs 1\nNs {exponent}\n")?;
+        let mut desk = desk_with(rt.alloc(), NAMES, VIEW, &scene, LIGHT)?;
+        desk.add("x.mtl", library.as_bytes())?;
+        expect_files(&rt, &mut desk, b"P6\n1 1\n255\n\xFF\xFF\xFF", WHITE_RECORD);
+    }
+    Ok(())
+}
+
+// Normals of the corners that all point up, or all down and are turned, change nothing.
+#[test]
+fn renders_normals_of_corners(rt: HostRuntime) -> Result<(), Fail> {
+    for normal in ["0 0 1", "0 0 -2"] {
+        let scene = format!(in rt.alloc();
+            "v -1 -1 0\nv 1 -1 0\nv 0 1 0\nvn {normal}\nf 1//1 2//1 3//1\n"
+        )?;
+        let mut desk = desk_with(rt.alloc(), NAMES, VIEW, &scene, LIGHT)?;
+        expect_files(&rt, &mut desk, PICTURE, RECORD);
+    }
+    Ok(())
+}
+
+// Each of the four rays passes 1.25 to the side of the middle, and misses the triangle.
+#[test]
+fn renders_grids(rt: HostRuntime) -> Result<(), Fail> {
+    let view = format!(in rt.alloc(); "{VIEW}grid 2\n")?;
+    let mut desk = desk_with(rt.alloc(), NAMES, &view, SCENE, LIGHT)?;
+    expect_files(
+        &rt,
+        &mut desk,
+        b"P6\n1 1\n255\n\0\0\0",
+        b"LCB 1 1 1 2 1000 20\n0 0 0 0 0 0 0 0\n0 0 0 0 0 0 0 0\n0 0 0 0 0 0 0 0\n0 0 0 0 0 0 0 0\n",
+    );
+    Ok(())
+}
+
+const CUBE: &str =
+    "# a cube\nmtllib cube.mtl\no Cube\nv 1.000000 1.000000 -1.000000\nv 1.000000 -1.000000 -1.000000\nv 1.000000 1.000000 1.000000\nv 1.000000 -1.000000 1.000000\nv -1.000000 1.000000 -1.000000\nv -1.000000 -1.000000 -1.000000\nv -1.000000 1.000000 1.000000\nv -1.000000 -1.000000 1.000000\nvn 0.0000 1.0000 0.0000\nvn 0.0000 0.0000 1.0000\nvn -1.0000 0.0000 0.0000\nvn 0.0000 -1.0000 0.0000\nvn 1.0000 0.0000 0.0000\nvn 0.0000 0.0000 -1.0000\nusemtl Material\ns 0\nf 1//1 5//1 7//1 3//1\nf 4//2 3//2 7//2 8//2\nf 8//3 7//3 5//3 6//3\nf 6//4 2//4 4//4 8//4\nf 2//5 1//5 3//5 4//5\nf 6//6 5//6 1//6 2//6\n";
+
+const CUBE_MATERIAL: &[u8] =
+    b"newmtl Material\nNs 225.000000\nKa 1.000000 1.000000 1.000000\nKd 0.800000 0.800000 0.800000\nKs 0.500000 0.500000 0.500000\nKe 0.000000 0.000000 0.000000\nNi 1.450000\nd 1.000000\nillum 2\n";
+
+// A cube as Blender writes it, with normals and a highlight, under 300 samples of an area light.
+#[test]
+fn renders_a_cube(rt: HostRuntime) -> Result<(), Fail> {
+    let view = "eye 0 0 6\nat 0 0 0\nsize 64 48\n";
+    let lights = "area -2 4 4 4 0 0 0 0 4 20 20 20 300\n";
+    let mut desk = desk_with(rt.alloc(), NAMES, view, CUBE, lights)?;
+    desk.add("cube.mtl", CUBE_MATERIAL)?;
+    assert_eq!(rt; serve(rt.alloc(), &["render", "j.txt"], &mut desk), 0);
+    let picture = desk.told(Slot::Picture);
+    assert_eq!(rt; picture.len(), 9229);
+    assert!(rt; picture.starts_with(b"P6\n64 48\n255\n"));
+    let record = desk.told(Slot::Bounds);
+    assert!(rt; record.starts_with(b"LCB 1 64 48 1 1000 20\n0 0 0 0 0 0 0 0\n"));
+    assert_eq!(rt; record.iter().filter(|b| **b == b'\n').count(), 3073);
+    Ok(())
+}

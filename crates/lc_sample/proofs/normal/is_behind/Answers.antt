@@ -6,7 +6,7 @@ use Rattle.lc_num.specs.Vectors.{Within, dot, cross}
 use Rattle.lc_num.proofs.Triples.{dot_bound}
 use Rattle.lc_geom.specs.Crossing.{side}
 use Rattle.lc_sample.proofs.SpotLemmas.{within_more}
-use Rattle.lc_sample.proofs.spot.is_behind.Goals as goal
+use Rattle.lc_sample.proofs.normal.is_behind.Goals as goal
 
 pub dot-requires-clause-a : goal.dot-requires-clause-a
 dot-requires-clause-a c =

@@ -39,12 +39,9 @@ struct Colour {
 struct Spot {
     x: Vec3,
     n: Vec3,
-    #[allow(dead_code)]
     r: Vec3,
     kd: Colour,
-    #[allow(dead_code)]
     ks: Colour,
-    #[allow(dead_code)]
     ns: u32,
 }
 
@@ -219,37 +216,90 @@ fn channel(scale: u64, colour: u32, total: u64) -> u128 {
     scale as u128 * (colour as u64 * total) as u128
 }
 
-fn scaled_total(geometry: u64, cosine: u32, colour: Colour, total: Power) -> Rgb {
-    let scale = geometry * cosine as u64;
+fn is_black(colour: Colour) -> bool {
+    colour.r == 0 && colour.g == 0 && colour.b == 0
+}
+
+fn pow16(c: u32, e: u32) -> u32 {
+    if e == 0 {
+        return 65536;
+    }
+    let mut power = c as u64;
+    for place in (0..e.ilog2()).rev() {
+        power = power * power >> 16;
+        if e >> place & 1 == 1 {
+            power = c as u64 * power >> 16;
+        }
+    }
+    power as u32
+}
+
+#[derive(Clone, Copy)]
+struct Reflection {
+    cosine: u32,
+    highlight: u32,
+}
+
+fn reflection_top(spot: &Spot, span: Span3, least: u128) -> Option<Reflection> {
+    let cosine = cos_top(spot.n, span, least);
+    if cosine == 0 {
+        return None;
+    }
+    let highlight = if is_black(spot.ks) { 0 } else { pow16(cos_top(spot.r, span, least), spot.ns) };
+    Some(Reflection { cosine, highlight })
+}
+
+fn scaled_total(geometry: u64, spot: &Spot, reflection: Reflection, total: Power) -> Rgb {
+    let diffuse = geometry * reflection.cosine as u64;
+    let specular = geometry * reflection.highlight as u64;
     Rgb {
-        r: channel(scale, colour.r, total.r),
-        g: channel(scale, colour.g, total.g),
-        b: channel(scale, colour.b, total.b),
+        r: channel(diffuse, spot.kd.r, total.r) + channel(specular, spot.ks.r, total.r),
+        g: channel(diffuse, spot.kd.g, total.g) + channel(specular, spot.ks.g, total.g),
+        b: channel(diffuse, spot.kd.b, total.b) + channel(specular, spot.ks.b, total.b),
+    }
+}
+
+fn cos16(n: Vec3, b: Vec3) -> u32 {
+    let along = short_dot(n, b);
+    if along <= 0 {
+        return 0;
+    }
+    cosine(along as u64, short_square(n) as u128 * short_square(b) as u128)
+}
+
+fn material(spot: &Spot, b: Vec3) -> Rgb {
+    let cosine = cos16(spot.n, b);
+    if cosine == 0 {
+        return Rgb { r: 0, g: 0, b: 0 };
+    }
+    let highlight = if is_black(spot.ks) { 0 } else { pow16(cos16(spot.r, b), spot.ns) };
+    Rgb {
+        r: (spot.kd.r * cosine + spot.ks.r * highlight) as u128,
+        g: (spot.kd.g * cosine + spot.ks.g * highlight) as u128,
+        b: (spot.kd.b * cosine + spot.ks.b * highlight) as u128,
     }
 }
 
 fn top(spot: &Spot, clump: &OmniClump) -> Rgb {
     let near = near2(spot.x, clump.span);
-    let cosine = cos_top(spot.n, box_from(spot.x, clump.span), near);
-    if cosine == 0 {
+    let Some(reflection) = reflection_top(spot, box_from(spot.x, clump.span), near) else {
         return Rgb { r: 0, g: 0, b: 0 };
-    }
-    scaled_total(falloff(near as u64), cosine, spot.kd, clump.total)
+    };
+    scaled_total(falloff(near as u64), spot, reflection, clump.total)
 }
 
 fn oriented_top(spot: &Spot, clump: &OrientedClump) -> Rgb {
     let near = near2(spot.x, clump.span);
-    let cosine = cos_top(spot.n, box_from(spot.x, clump.span), near);
-    if cosine == 0 {
+    let Some(reflection) = reflection_top(spot, box_from(spot.x, clump.span), near) else {
         return Rgb { r: 0, g: 0, b: 0 };
-    }
+    };
     let offsets = box_to(spot.x, clump.span);
     let emission = emit_top(clump.normals, clump.least as u64, offsets, near as u64);
     if emission == 0 {
         return Rgb { r: 0, g: 0, b: 0 };
     }
     let geometry = emission as u64 * falloff(near as u64) / 65536;
-    scaled_total(geometry, cosine, spot.kd, clump.total)
+    scaled_total(geometry, spot, reflection, clump.total)
 }
 
 struct Random {
@@ -286,6 +336,16 @@ impl Random {
             ks: Colour { r: 0, g: 0, b: 0 },
             ns: 0,
         }
+    }
+
+    fn shiny_spot(&mut self) -> Spot {
+        let spot = self.spot();
+        let view = self.vector(16384);
+        let r = self.number(10_000);
+        let g = self.number(10_000);
+        let b = self.number(10_000);
+        let ns = self.number(100);
+        Spot { r: view, ks: Colour { r, g, b }, ns, ..spot }
     }
 
     fn twice_a_power(&mut self) -> Power {
@@ -348,6 +408,10 @@ fn add_oriented_tops(sum: u128, cases: &[(Spot, OrientedClump)]) -> u128 {
     cases.iter().fold(sum, |total, (spot, clump)| plus(total, oriented_top(spot, clump)))
 }
 
+fn add_materials(sum: u128, reflections: &[(Spot, Vec3)]) -> u128 {
+    reflections.iter().fold(sum, |total, (spot, b)| plus(total, material(spot, *b)))
+}
+
 fn add_emissions(sum: u128, emissions: &[Emission]) -> u128 {
     emissions.iter().fold(sum, |total, e| {
         total.wrapping_add(emit_top(e.normals, e.least_n, e.offsets, e.least_d) as u128)
@@ -381,6 +445,18 @@ fn main() {
         })
         .collect();
     let emissions: Vec<Emission> = (0..1024).map(|_| random.emission()).collect();
+    let shiny_cases: Vec<(Spot, OmniClump)> = (0..1024)
+        .map(|_| {
+            let spot = random.shiny_spot();
+            (spot, random.clump())
+        })
+        .collect();
+    let reflections: Vec<(Spot, Vec3)> = (0..1024)
+        .map(|_| {
+            let spot = random.shiny_spot();
+            (spot, random.vector(100_100_000))
+        })
+        .collect();
 
     let start = Instant::now();
     let sum = (0..rounds).fold(0, |sum, _| add_tops(sum, &cases));
@@ -393,4 +469,12 @@ fn main() {
     let start = Instant::now();
     let sum = (0..rounds).fold(0, |sum, _| add_emissions(sum, &emissions));
     report(timed, "emit_top", sum, start);
+
+    let start = Instant::now();
+    let sum = (0..rounds).fold(0, |sum, _| add_tops(sum, &shiny_cases));
+    report(timed, "shiny", sum, start);
+
+    let start = Instant::now();
+    let sum = (0..rounds).fold(0, |sum, _| add_materials(sum, &reflections));
+    report(timed, "material", sum, start);
 }

@@ -2,11 +2,13 @@
 use Rattle.std.specs.Prelude.{ℕ, ◌+◌}
 use Rattle.lc_num.specs.Boxes.{emit_top}
 use Rattle.lc_num.specs.declared.channels.Rgb.{Rgb}
+use Rattle.lc_terms.specs.Factor.{material}
 use Rattle.lc_bound.specs.Omni.{top}
 use Rattle.lc_bound.specs.Oriented.{top as oriented_top}
 use Rattle.bench_bound.specs.declared.inputs.Case.{Case}
 use Rattle.bench_bound.specs.declared.inputs.OrientedCase.{OrientedCase}
 use Rattle.bench_bound.specs.declared.inputs.Emission.{Emission}
+use Rattle.bench_bound.specs.declared.inputs.Reflection.{Reflection}
 
 -- the bound's three channels
 abbrev channels : Rgb → ℕ
@@ -17,6 +19,9 @@ top_sum k = channels (top k.spot k.clump)
 
 abbrev pub oriented_sum : OrientedCase → ℕ
 oriented_sum k = channels (oriented_top k.spot k.clump)
+
+abbrev pub material_sum : Reflection → ℕ
+material_sum l = channels (material l.spot l.b)
 
 abbrev pub emission_of : Emission → ℕ
 emission_of e = emit_top e.normals e.least_n e.offsets e.least_d

@@ -4,7 +4,7 @@ ghost use Rattle.lc_num.specs.Vectors.{Within};
 ghost use Rattle.lc_num.specs.Boxes.{IsBoxWithin};
 ghost use Rattle.lc_num.specs.Channels.{IsColourWithin, IsPowerWithin};
 ghost use Rattle.lc_light.specs.Lights.{IsOriented};
-ghost use Rattle.lc_terms.specs.Spot.{IsMatte, IsSpot};
+ghost use Rattle.lc_terms.specs.Spot.{IsSpot};
 ghost use Rattle.lc_bound.specs.Omni.{IsClump};
 ghost use Rattle.lc_bound.specs.Oriented.{IsClump as IsOrientedClump};
 
@@ -76,10 +76,9 @@ impl Random {
         Power { r, g, b }
     }
 
-    /// A matte spot of the octant in which no coordinate is positive, whose normal has no negative component.
+    /// A spot without a highlight of the octant in which no coordinate is positive, whose normal has no negative component.
     fn spot(&mut self) -> Spot
         ensures spot { IsSpot result }
-        ensures matte { IsMatte result }
     {
         let place = self.vector(50_000_000);
         let n = self.vector(16384);
@@ -92,6 +91,17 @@ impl Random {
             ks: Colour { r: 0, g: 0, b: 0 },
             ns: 0,
         }
+    }
+
+    /// The same with a highlight, whose mirrored view has no negative component.
+    fn shiny_spot(&mut self) -> Spot
+        ensures { IsSpot result }
+    {
+        let spot = self.spot();
+        let r = self.vector(16384);
+        let ks = self.colour();
+        let ns = self.number(100);
+        Spot { r, ks, ns, ..spot }
     }
 
     /// The clump of two lights that are at most 100 apart on each axis.
@@ -168,7 +178,6 @@ pub struct Case {
     pub spot: Spot,
     pub clump: OmniClump,
     ghost is_spot: { IsSpot spot },
-    ghost matte: { IsMatte spot },
     ghost is_clump: { IsClump clump },
 }
 
@@ -182,13 +191,42 @@ pub fn cases(alloc: Global, random: &mut Random) -> Result<List<Case>, Memory> {
     Ok(list)
 }
 
+/// The same over spots with a highlight.
+pub fn shiny_cases(alloc: Global, random: &mut Random) -> Result<List<Case>, Memory> {
+    let mut list = List::new(alloc);
+    for _ in 0..COUNT {
+        let spot = random.shiny_spot();
+        let clump = random.clump();
+        list.push(Case { spot, clump })?;
+    }
+    Ok(list)
+}
+
+/// A spot with a highlight, and light that comes to it.
+#[derive(Clone, Copy)]
+pub struct Reflection {
+    pub spot: Spot,
+    pub b: Vec3,
+    ghost is_spot: { IsSpot spot },
+    ghost within: { Within 100_100_000 b },
+}
+
+pub fn reflections(alloc: Global, random: &mut Random) -> Result<List<Reflection>, Memory> {
+    let mut list = List::new(alloc);
+    for _ in 0..COUNT {
+        let spot = random.shiny_spot();
+        let b = random.vector(100_100_000);
+        list.push(Reflection { spot, b })?;
+    }
+    Ok(list)
+}
+
 /// A spot and a clump of oriented lights that is bounded there.
 #[derive(Clone, Copy)]
 pub struct OrientedCase {
     pub spot: Spot,
     pub clump: OrientedClump,
     ghost is_spot: { IsSpot spot },
-    ghost matte: { IsMatte spot },
     ghost is_clump: { IsOrientedClump clump },
 }
 

@@ -50,6 +50,8 @@ fn main(rt: HostRuntime) -> Result<()> {
     let cases = inputs::cases(alloc, &mut random)?;
     let oriented_cases = inputs::oriented_cases(alloc, &mut random)?;
     let emissions = inputs::emissions(alloc, &mut random)?;
+    let shiny_cases = inputs::shiny_cases(alloc, &mut random)?;
+    let reflections = inputs::reflections(alloc, &mut random)?;
 
     let start = Instant::now(&rt)?;
     let sum = rounds::tops(order.rounds, cases.as_slice());
@@ -62,5 +64,13 @@ fn main(rt: HostRuntime) -> Result<()> {
     let start = Instant::now(&rt)?;
     let sum = rounds::emissions(order.rounds, emissions.as_slice());
     report(&rt, &order, "emit_top", sum, start)?;
+
+    let start = Instant::now(&rt)?;
+    let sum = rounds::tops(order.rounds, shiny_cases.as_slice());
+    report(&rt, &order, "shiny", sum, start)?;
+
+    let start = Instant::now(&rt)?;
+    let sum = rounds::materials(order.rounds, reflections.as_slice());
+    report(&rt, &order, "material", sum, start)?;
     Ok(())
 }

@@ -1,11 +1,11 @@
 // Rounds over the inputs.
 ghost use Rattle.std.specs.Prelude.{◌≡◌, ◌+◌, ◌%◌, ◌^◌, sum_by};
-ghost use Rattle.bench_bound.specs.Sums.{emission_of, oriented_sum, top_sum};
+ghost use Rattle.bench_bound.specs.Sums.{emission_of, material_sum, oriented_sum, top_sum};
 
-use crate::inputs::{Case, Emission, OrientedCase};
+use crate::inputs::{Case, Emission, OrientedCase, Reflection};
 use lc_bound::{OmniKind, OrientedKind};
 use lc_num::{Rgb, emit_top};
-use lc_terms::Kind;
+use lc_terms::{Kind, material};
 
 /// A number and the three channels of a bound.
 fn plus(sum: u128, top: Rgb) -> u128
@@ -36,6 +36,16 @@ fn add_oriented_tops(sum: u128, cases: &[OrientedCase]) -> u128
     total
 }
 
+fn add_materials(sum: u128, reflections: &[Reflection]) -> u128
+    ensures { result ≡ (sum + sum_by material_sum reflections.now) % 2 ^ 128 }
+{
+    let mut total = sum;
+    for lit in reflections {
+        total = plus(total, material(&lit.spot, lit.b));
+    }
+    total
+}
+
 fn add_emissions(sum: u128, emissions: &[Emission]) -> u128
     ensures { result ≡ (sum + sum_by emission_of emissions.now) % 2 ^ 128 }
 {
@@ -61,6 +71,15 @@ pub fn oriented_tops(rounds: u32, cases: &[OrientedCase]) -> u128 {
     let mut sum = 0;
     for _ in 0..rounds {
         sum = add_oriented_tops(sum, cases);
+    }
+    sum
+}
+
+/// The sum of the material terms in all rounds.
+pub fn materials(rounds: u32, reflections: &[Reflection]) -> u128 {
+    let mut sum = 0;
+    for _ in 0..rounds {
+        sum = add_materials(sum, reflections);
     }
     sum
 }

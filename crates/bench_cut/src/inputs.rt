@@ -2,7 +2,7 @@
 ghost use Rattle.std.specs.Prelude.{◌≤◌, unsigned_abs, All, IfOk, length};
 ghost use Rattle.lc_num.specs.Vectors.{Within};
 ghost use Rattle.lc_num.specs.Channels.{IsPowerWithin};
-ghost use Rattle.lc_terms.specs.Spot.{IsMatte, IsSpot};
+ghost use Rattle.lc_terms.specs.Spot.{IsSpot};
 ghost use Rattle.lc_light.specs.Lights.{AreLights, IsOmni, IsOriented, IsSun};
 
 use lc_light::{Lights, Omni, Oriented, Sun};
@@ -90,10 +90,9 @@ impl Random {
         Sun { toward, power }
     }
 
-    /// A matte white spot among the lights.
+    /// A white spot without a highlight among the lights.
     pub fn spot(&mut self) -> Spot
         ensures spot { IsSpot result }
-        ensures matte { IsMatte result }
     {
         let x = self.vector(1_000_000);
         let n = self.vector(16384);

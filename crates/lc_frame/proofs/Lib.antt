@@ -5,3 +5,5 @@ pub mod RowLemmas
 pub mod StartLemmas
 pub mod FileLemmas
 pub mod WrittenLemmas
+pub mod PlainLemmas
+pub mod PlainFileLemmas

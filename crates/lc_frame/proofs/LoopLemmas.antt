@@ -1,5 +1,5 @@
 -- Calls that a loop makes: the calls of step 0, then those of step 1, and so on.
-use Rattle.std.proofs.Common.{◌≡◌, ℕ, zero, suc, ◌+◌, ◌-◌, ◌<◌, List, [], ◌∷◌, ◌++◌, map, flat_map, length, refl, sym, ◌∙◌, ap, subst, arith, append_assoc, append-nil, add-one}
+use Rattle.std.proofs.Common.{◌≡◌, ℕ, zero, suc, ◌+◌, ◌-◌, ◌<◌, ◌≤◌, List, [], ◌∷◌, ◌++◌, map, flat_map, length, refl, sym, ◌∙◌, ap, subst, arith, append_assoc, append-nil, add-one}
 use Rattle.std.specs.List.{range_with_len}
 use Rattle.lc_desk.specs.Calls.{Call, Made}
 use Rattle.lc_desk.specs.Desk.{DeskState}
@@ -98,6 +98,10 @@ module _ {A : Type 0} (f : ℕ → A) where
     counted : (a m : ℕ) → length (map f (range_with_len a m)) ≡ m
     counted a zero = refl
     counted a (suc m) = ap suc (counted (a + 1) m)
+
+  -- at the end of a loop the steps so far are all steps
+  pub items-all : (k n : ℕ) → k ≤ n → n ≤ k → items k ≡ items n
+  items-all k n most least = let e : k ≡ n = omega (arith, most, least) in ap items e
 
   -- what two functions give that are one after the other
   pub items-map : {B : Type 0} (h : A → B) (n : ℕ) → map h (items n) ≡ map (λ k. h (f k)) (range_with_len 0 n)

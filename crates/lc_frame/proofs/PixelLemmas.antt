@@ -21,7 +21,7 @@ use Rattle.lc_frame.specs.Parts.{bytes_of_sums, pixel_answers, sample_at, sums_o
 use Rattle.lc_frame.specs.Stops.{Broke}
 use Rattle.lc_frame.specs.declared.stop.FrameStop.{FrameStop}
 use Rattle.lc_frame.specs.declared.summary.Summary.{Summary}
-use Rattle.lc_frame.proofs.LoopLemmas.{items, items-length, items-map, items-more, items-split, rest_of, frame_after, frame_before}
+use Rattle.lc_frame.proofs.LoopLemmas.{items, items-all, items-length, items-map, items-more, items-split, rest_of, frame_after, frame_before}
 
 -- the answers of a pixel are those of its samples by their numbers
 pub pixel_answers-is : (job : Job) (scene : SceneParts) (row col : ℕ) → pixel_answers job scene row col ≡ items (sample_at job scene row col) (job.camera.grid * job.camera.grid)
@@ -30,9 +30,6 @@ pixel_answers-is job scene row col = items-map (ray_at job.camera row col) (samp
 
 pub lines-append : (xs ys : List Answer) → lines_of (xs ++ ys) ≡ lines_of xs ++ lines_of ys
 lines-append xs ys = map-append (λ (a : Answer). put Bounds (line_bytes a)) xs ys
-
-pub estimates-append : (xs ys : List Answer) → estimates (xs ++ ys) ≡ estimates xs ++ estimates ys
-estimates-append xs ys = map-append (λ (a : Answer). a.est) xs ys
 
 pub evals-append : (xs ys : List Answer) → evals_of (xs ++ ys) ≡ evals_of xs + evals_of ys
 evals-append xs ys = sum_by-append (λ (a : Answer). a.evals) xs ys
@@ -50,6 +47,11 @@ same_sums r g b r' g' b' e f h = cc
 pub sums-append : (xs ys : List Rgb) → sums_of (xs ++ ys) ≡ plus (sums_of xs) (sums_of ys)
 sums-append xs ys =
     same_sums _ _ _ _ _ _ (sum_by-append (λ (c : Rgb). c.r) xs ys) (sum_by-append (λ (c : Rgb). c.g) xs ys) (sum_by-append (λ (c : Rgb). c.b) xs ys)
+
+-- the sums over the first k, and then one more
+pub sums-more : (f : ℕ → Rgb) (k : ℕ) → sums_of (items f (k + 1)) ≡ plus (sums_of (items f k)) (f k)
+sums-more f k =
+    ap sums_of (items-more f k) ∙ sums-append (items f k) (f k ∷ []) ∙ ap (plus (sums_of (items f k))) (same_sums _ _ _ _ _ _ (omega arith) (omega arith) (omega arith))
 
 pub same_summary : (n s l n' s' l' : ℕ) → n ≡ n' → s ≡ s' → l ≡ l' → ◌≡◌ {A = Summary} (record { samples = n; sizes = s; largest = l }) (record { samples = n'; sizes = s'; largest = l' })
 same_summary n s l n' s' l' e f h = cc
@@ -78,8 +80,8 @@ module _ (f : ℕ → Answer) (k : ℕ) where
 
   pub sums_more : sums_of (estimates (items f (k + 1))) ≡ plus (sums_of (estimates (items f k))) (f k).est
   sums_more =
-      ap (λ l. sums_of (estimates l)) (items-more f k) ∙ ap sums_of (estimates-append (items f k) (f k ∷ []))
-      ∙ sums-append (estimates (items f k)) ((f k).est ∷ []) ∙ ap (plus (sums_of (estimates (items f k)))) (same_sums _ _ _ _ _ _ (omega arith) (omega arith) (omega arith))
+      ap sums_of (items-map f (λ (a : Answer). a.est) (k + 1)) ∙ sums-more (λ j. (f j).est) k
+      ∙ ap (λ l. plus (sums_of l) (f k).est) (sym (items-map f (λ (a : Answer). a.est) k))
 
   pub summary_more : (s : Summary) → with_more (items f (k + 1)) s ≡ with_more (f k ∷ []) (with_more (items f k) s)
   summary_more s = ap (λ l. with_more l s) (items-more f k) ∙ more-append (items f k) (f k ∷ []) s
@@ -128,13 +130,15 @@ module _ (f : ℕ → Answer) (k : ℕ) (a : Answer) (is : a ≡ f k) where
 -- at the end of the loop the samples are all those of the pixel
 pub whole : (job : Job) (scene : SceneParts) (row col k : ℕ) → k ≤ job.camera.grid * job.camera.grid → job.camera.grid * job.camera.grid ≤ k → items (sample_at job scene row col) k ≡ pixel_answers job scene row col
 whole job scene row col k most least =
-    let e : k ≡ job.camera.grid * job.camera.grid = omega (arith, most, least) in
-    ap (items (sample_at job scene row col)) e ∙ sym (pixel_answers-is job scene row col)
+    items-all (sample_at job scene row col) k (job.camera.grid * job.camera.grid) most least ∙ sym (pixel_answers-is job scene row col)
 
 -- the bytes of a pixel by the sums over its samples are those of their means
-pub bytes_by_sums : (white : ℕ) (job : Job) (scene : SceneParts) (row col : ℕ) (sums : Rgb) → sums ≡ sums_of (estimates (pixel_answers job scene row col))
-    → bytes_of_sums white (job.camera.grid * job.camera.grid) sums ≡ pixel_bytes white (estimates (pixel_answers job scene row col))
+pub bytes_by_sums : (white count : ℕ) (pixel : List Rgb) (sums : Rgb) → length pixel ≡ count → sums ≡ sums_of pixel → bytes_of_sums white count sums ≡ pixel_bytes white pixel
 unfolding pixel_bytes
-bytes_by_sums white job scene row col sums is =
-    let n : length (estimates (pixel_answers job scene row col)) ≡ job.camera.grid * job.camera.grid = length-map (pixel_answers job scene row col) (λ (a : Answer). a.est) ∙ ap length (pixel_answers-is job scene row col) ∙ items-length (sample_at job scene row col) (job.camera.grid * job.camera.grid) in
-    ap (bytes_of_sums white (job.camera.grid * job.camera.grid)) is ∙ ap (λ m. bytes_of_sums white m (sums_of (estimates (pixel_answers job scene row col)))) (sym n)
+bytes_by_sums white count pixel sums n is = ap (bytes_of_sums white count) is ∙ ap (λ m. bytes_of_sums white m (sums_of pixel)) (sym n)
+
+-- a pixel has an estimate for each sample
+pub estimates-length : (job : Job) (scene : SceneParts) (row col : ℕ) → length (estimates (pixel_answers job scene row col)) ≡ job.camera.grid * job.camera.grid
+estimates-length job scene row col =
+    length-map (pixel_answers job scene row col) (λ (a : Answer). a.est) ∙ ap length (pixel_answers-is job scene row col)
+    ∙ items-length (sample_at job scene row col) (job.camera.grid * job.camera.grid)

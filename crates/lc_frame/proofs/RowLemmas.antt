@@ -14,7 +14,7 @@ use Rattle.lc_frame.specs.Parts.{pixel_answers, row_answers, with_more}
 use Rattle.lc_frame.specs.Stops.{Broke}
 use Rattle.lc_frame.specs.declared.stop.FrameStop.{FrameStop}
 use Rattle.lc_frame.specs.declared.summary.Summary.{Summary}
-use Rattle.lc_frame.proofs.LoopLemmas.{flat_map-append, frame_after, frame_before, items, items-map, items-more, items-split, rest_of}
+use Rattle.lc_frame.proofs.LoopLemmas.{flat_map-append, frame_after, frame_before, items, items-all, items-map, items-more, items-split, rest_of}
 use Rattle.lc_frame.proofs.PixelLemmas.{evals-append, more-append}
 
 -- the pixels of a row are those of its columns
@@ -62,13 +62,11 @@ module _ {A : Type 0} (f : ℕ → A) (g : A → List Answer) (k : ℕ) where
 -- at the end of the loops
 pub whole_row : (job : Job) (scene : SceneParts) (row col : ℕ) → col ≤ job.camera.width → job.camera.width ≤ col → items (pixel_answers job scene row) col ≡ row_answers job scene row
 whole_row job scene row col most least =
-    let e : col ≡ job.camera.width = omega (arith, most, least) in
-    ap (items (pixel_answers job scene row)) e ∙ sym (row_answers-is job scene row)
+    items-all (pixel_answers job scene row) col job.camera.width most least ∙ sym (row_answers-is job scene row)
 
 pub whole_picture : (job : Job) (scene : SceneParts) (row : ℕ) → row ≤ job.camera.height → job.camera.height ≤ row → items (row_answers job scene) row ≡ answers_of job scene
 whole_picture job scene row most least =
-    let e : row ≡ job.camera.height = omega (arith, most, least) in
-    ap (items (row_answers job scene)) e ∙ sym (answers-is job scene)
+    items-all (row_answers job scene) row job.camera.height most least ∙ sym (answers-is job scene)
 
 -- a stop in a pixel of a row
 pub row_broke : (job : Job) (scene : SceneParts) (row col : ℕ) (stop : FrameStop) (x y z : DeskState) → col < job.camera.width → Made (flat_map lines_of (items (pixel_answers job scene row) col)) x y → Broke stop (lines_of (pixel_answers job scene row col)) y z → Broke stop (flat_map lines_of (row_answers job scene row)) x z

@@ -2,6 +2,7 @@
 use Rattle.std.proofs.Common.{◌≡◌, ℕ, List, [], ◌∷◌, ◌++◌, flat_map, ◌∙◌, ap, subst, arith, inr}
 use Rattle.lc_desk.specs.Calls.{Call, Made, begin, put}
 use Rattle.lc_desk.specs.Desk.{DeskState}
+use Rattle.lc_desk.specs.declared.desk.Slot.{Slot}
 use Rattle.lc_desk.specs.declared.desk.Slot.TheVariants.{Picture, Bounds}
 use Rattle.lc_desk.proofs.CallLemmas.{made_then}
 use Rattle.lc_rated.specs.declared.answer.Answer.{Answer}
@@ -21,13 +22,17 @@ use Rattle.lc_frame.proofs.PixelLemmas.{same_summary}
 abbrev pub starting : Call → Call → List Call
 starting a b = a ∷ b ∷ []
 
+-- the start of a file, by what its name and its header are
+pub start-is : (slot : Slot) (name named head headed : List ℕ) → name ≡ named → head ≡ headed → starting (begin slot name) (put slot head) ≡ starting (begin slot named) (put slot headed)
+start-is slot name named head headed n h = ap (λ x. starting (begin slot x) (put slot head)) n ∙ ap (λ x. starting (begin slot named) (put slot x)) h
+
 -- the starts of both files, by what their names and headers are
 module _ (job : Job) (name picture other log : List ℕ) (named : name ≡ job.picture) (pictured : picture ≡ tone.header_bytes job.camera.width job.camera.height) (called : other ≡ job.bounds) (logged : log ≡ record_of.header_bytes (header_of job)) where
   first_start : starting (begin Picture name) (put Picture picture) ≡ starting (begin Picture job.picture) (put Picture (tone.header_bytes job.camera.width job.camera.height))
-  first_start = ap (λ n. starting (begin Picture n) (put Picture picture)) named ∙ ap (λ p. starting (begin Picture job.picture) (put Picture p)) pictured
+  first_start = start-is Picture name job.picture picture _ named pictured
 
   second_start : starting (begin Bounds other) (put Bounds log) ≡ starting (begin Bounds job.bounds) (put Bounds (record_of.header_bytes (header_of job)))
-  second_start = ap (λ n. starting (begin Bounds n) (put Bounds log)) called ∙ ap (λ r. starting (begin Bounds job.bounds) (put Bounds r)) logged
+  second_start = start-is Bounds other job.bounds log _ called logged
 
   opening-is : starting (begin Picture name) (put Picture picture) ++ starting (begin Bounds other) (put Bounds log) ≡ opening job
   opening-is =
@@ -47,7 +52,7 @@ module _ (job : Job) (name picture other log : List ℕ) (named : name ≡ job.p
 pub fresh : (answers : List Answer) (s : Summary) → s ≡ record { samples = 0; sizes = 0; largest = 0 } → with_more answers s ≡ summary_of answers
 fresh answers s none = ap (with_more answers) none ∙ same_summary _ _ _ _ _ _ (omega arith) (omega arith) (omega arith)
 
-stopped_in : (stop : FrameStop) (calls : List Call) (x y : DeskState) → Broke stop calls x y → StoppedIn stop calls x y
+pub stopped_in : (stop : FrameStop) (calls : List Call) (x y : DeskState) → Broke stop calls x y → StoppedIn stop calls x y
 stopped_in (frame.Write slot) calls x y h = h
 stopped_in frame.Memory calls x y h = inr h
 

@@ -27,6 +27,22 @@ on_picture = (0, omega arith, refl)
 on_bounds : Contains files Bounds
 on_bounds = (1, omega arith, refl)
 
+-- ---- a file that is begun, and then has a part of its bytes: those of its header, and then the others
+
+module _ (name bytes head others : List ℕ) (s : SlotState) (is : bytes ≡ head ++ others) where
+  -- a part of the header
+  pub head_part : (part : List ℕ) (now : SlotState) → IsPart part head → now ≡ appended part (opened name s) → LeftPart name bytes s now
+  head_part part now p held = inr (took bytes part (opened name s) now (subst (IsPart part) (sym is) (wider part p)) held) where
+    wider : (l : List ℕ) → IsPart l head → IsPart l (head ++ others)
+    wider l q = subst (λ x. IsPart x (head ++ others)) (sym q.1) (part_taken q.0 head others)
+
+  -- the header, and a part of the others
+  pub later_part : (part : List ℕ) (now : SlotState) → IsPart part others → now ≡ appended part (appended head (opened name s)) → LeftPart name bytes s now
+  later_part part now p held =
+      inr (took bytes (head ++ part) (opened name s) now (subst (IsPart (head ++ part)) (sym is) (part_in head part others p)) (held ∙ appended-appended head part (opened name s)))
+
+-- ---- the files of a render
+
 module _ (job : Job) (rows : List (List (List Answer))) where
   abbrev head : List ℕ
   head = tone.header_bytes job.camera.width job.camera.height
@@ -67,25 +83,21 @@ module _ (job : Job) (rows : List (List (List Answer))) where
 
   module _ (s : Slots) where
     picture_of_head : (part : List ℕ) (now : SlotState) → IsPart part head → now ≡ appended part (opened job.picture s.picture) → LeftPart job.picture (picture_text job rows) s.picture now
-    picture_of_head part now p is = inr (took (picture_text job rows) part (opened job.picture s.picture) now (subst (IsPart part) (sym picture_is) (wider part p)) is) where
-      wider : (l : List ℕ) → IsPart l head → IsPart l (head ++ flat_map picture_in tail)
-      wider l q = subst (λ x. IsPart x (head ++ flat_map picture_in tail)) (sym q.1) (part_taken q.0 head (flat_map picture_in tail))
+    picture_of_head part now p held = head_part job.picture (picture_text job rows) head (flat_map picture_in tail) s.picture picture_is part now p held
 
     bounds_of_log : (part : List ℕ) (now : SlotState) → IsPart part log → now ≡ appended part (opened job.bounds s.bounds) → LeftPart job.bounds (record_text job rows) s.bounds now
-    bounds_of_log part now p is = inr (took (record_text job rows) part (opened job.bounds s.bounds) now (subst (IsPart part) (sym record_is) (wider part p)) is) where
-      wider : (l : List ℕ) → IsPart l log → IsPart l (log ++ flat_map bounds_in tail)
-      wider l q = subst (λ x. IsPart x (log ++ flat_map bounds_in tail)) (sym q.1) (part_taken q.0 log (flat_map bounds_in tail))
+    bounds_of_log part now p held = head_part job.bounds (record_text job rows) log (flat_map bounds_in tail) s.bounds record_is part now p held
 
     -- in the rows
     later_picture : (now : Slots) → PartOf tail (started s) now → LeftPart job.picture (picture_text job rows) s.picture now.picture
     later_picture now q =
         let p = picture_parts tail (started s) now (rows_put job.white rows) q in
-        inr (took (picture_text job rows) (head ++ p.0) (opened job.picture s.picture) now.picture (subst (IsPart (head ++ p.0)) (sym picture_is) (part_in head p.0 (flat_map picture_in tail) p.1)) (p.2 ∙ appended-appended head p.0 (opened job.picture s.picture)))
+        later_part job.picture (picture_text job rows) head (flat_map picture_in tail) s.picture picture_is p.0 now.picture p.1 p.2
 
     later_bounds : (now : Slots) → PartOf tail (started s) now → LeftPart job.bounds (record_text job rows) s.bounds now.bounds
     later_bounds now q =
         let p = bounds_parts tail (started s) now (rows_put job.white rows) q in
-        inr (took (record_text job rows) (log ++ p.0) (opened job.bounds s.bounds) now.bounds (subst (IsPart (log ++ p.0)) (sym record_is) (part_in log p.0 (flat_map bounds_in tail) p.1)) (p.2 ∙ appended-appended log p.0 (opened job.bounds s.bounds)))
+        later_part job.bounds (record_text job rows) log (flat_map bounds_in tail) s.bounds record_is p.0 now.bounds p.1 p.2
 
     picture_in_part : (now : Slots) → PartOf (render_calls job rows) s now → LeftPart job.picture (picture_text job rows) s.picture now.picture
     unfolding render_calls

@@ -1,4 +1,5 @@
 pub mod Frames
+pub mod PlainFrames
 pub mod Stops
 pub mod Parts
 pub mod Files

@@ -4,7 +4,7 @@ use Rattle.lc_num.specs.declared.channels.Rgb.{Rgb}
 use Rattle.lc_rated.specs.declared.answer.Answer.{Answer}
 use Rattle.lc_view.specs.Samples.{pixel_rays, ray_at, row_rays}
 use Rattle.lc_job.specs.declared.job.Job.{Job}
-use Rattle.lc_sample.specs.Sampled.{sample_of}
+use Rattle.lc_sample.specs.Sampled.{light_of, sample_of}
 use Rattle.lc_sample.specs.Scenes.{SceneParts}
 use Rattle.lc_tone.specs.Tone.{byte_of}
 use Rattle.lc_frame.specs.declared.summary.Summary.{Summary}
@@ -21,6 +21,18 @@ pixel_answers job scene row col = map (sample_of job.cut job.permille scene) (pi
 -- the answers at the samples of the pixels of a row
 unfoldable pub row_answers : Job → SceneParts → ℕ → List (List Answer)
 row_answers job scene row = map (map (sample_of job.cut job.permille scene)) (row_rays job.camera row)
+
+-- the sum over all lights at sample k of a pixel
+unfoldable pub sum_at : Job → SceneParts → ℕ → ℕ → ℕ → Rgb
+sum_at job scene row col k = light_of scene (ray_at job.camera row col k)
+
+-- the sums over all lights at the samples of a pixel
+unfoldable pub pixel_lights : Job → SceneParts → ℕ → ℕ → List Rgb
+pixel_lights job scene row col = map (light_of scene) (pixel_rays job.camera row col)
+
+-- the sums over all lights at the samples of the pixels of a row
+unfoldable pub row_lights : Job → SceneParts → ℕ → List (List Rgb)
+row_lights job scene row = map (map (light_of scene)) (row_rays job.camera row)
 
 -- the sums in each channel
 abbrev pub sums_of : List Rgb → Rgb

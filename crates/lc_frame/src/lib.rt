@@ -1,16 +1,18 @@
-//! The picture and the record of a job, written to a desk row by row.
+//! The picture and the record of a job, written to a desk row by row; and its picture by the sums over all lights.
 #![tactic(auto)]
 
 mod calls;
 mod laws;
 mod pixel;
+mod plain;
 mod render;
 mod room;
 mod row;
 mod stop;
 mod summary;
 
-pub use laws::written_files;
+pub use laws::{written_files, written_picture};
+pub use plain::plain_rows;
 pub use render::render_rows;
 pub use stop::FrameStop;
 pub use summary::Summary;

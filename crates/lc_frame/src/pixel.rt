@@ -23,7 +23,7 @@ use lc_view::ray_of;
 use std::sync::ledger::Ledger;
 
 /// The sum in each channel.
-fn plus(a: Rgb, b: Rgb) -> Rgb
+pub(crate) fn plus(a: Rgb, b: Rgb) -> Rgb
     requires a { IsRgbWithin (2 ^ 126) a }
     requires b { IsRgbWithin (2 ^ 126) b }
     ensures { result ≡ plus a b }
@@ -92,7 +92,7 @@ fn push_byte(row: &mut Vec<u8>, byte: u8)
 }
 
 /// Adds the bytes of a pixel to the row, by the sums over its samples.
-fn push_pixel(row: &mut Vec<u8>, sums: Rgb, count: u32, white: u64)
+pub(crate) fn push_pixel(row: &mut Vec<u8>, sums: Rgb, count: u32, white: u64)
     requires room { vec_len row.old + 3 ≤ vec_capacity row.old }
     requires count { 0 < count }
     requires white { white ≤ 100_000_000 }

@@ -33,6 +33,24 @@ fn header_of(job: &Job) -> Header
     }
 }
 
+/// The header of the job's picture.
+pub fn picture_head(alloc: Global, job: &Job) -> Result<Text, Memory>
+    ensures { IfOk result (λ head. head ≡ picture_header job.now.camera.width job.now.camera.height) }
+{
+    let mut head = Text::new(alloc);
+    header(job.camera.width, job.camera.height, &mut head)?;
+    Ok(head)
+}
+
+/// Room for one row of pixels.
+pub fn row_room(alloc: Global, job: &Job) -> Result<Vec<u8>, Memory>
+    requires { IsJob job.now }
+    ensures empty { IfOk result (λ row. row.items ≡ []) }
+    ensures space { IfOk result (λ row. 3 * job.now.camera.width ≤ vec_capacity row) }
+{
+    Ok(Vec::with_capacity(alloc, 3 * job.camera.width as usize)?)
+}
+
 impl Room {
     /// The memory for a render of the job.
     pub fn new(alloc: Global, job: &Job) -> Result<Room, Memory>
@@ -43,11 +61,10 @@ impl Room {
         ensures space { IfOk result (λ room. 3 * job.now.camera.width ≤ vec_capacity room.row) }
         ensures bench { IfOk result (λ room. room.bench ≡ job.now.cut) }
     {
-        let mut picture = Text::new(alloc);
-        header(job.camera.width, job.camera.height, &mut picture)?;
+        let picture = picture_head(alloc, job)?;
         let mut record = Text::new(alloc);
         header_text(&header_of(job), &mut record)?;
-        let row = Vec::with_capacity(alloc, 3 * job.camera.width as usize)?;
+        let row = row_room(alloc, job)?;
         let bench = Bench::new(alloc, job.cut)?;
         Ok(Room {
             picture,

@@ -2,7 +2,7 @@
 use lc_desk::Slot;
 use lc_num::Memory;
 
-/// Why a picture and its record were not written whole.
+/// Why a picture was not written whole, or its record.
 #[derive(Clone, Copy, Debug, PartialEq, Eq)]
 pub enum FrameStop {
     /// A begin or a put of this slot was refused: Picture or Bounds.

@@ -11,5 +11,7 @@ pub mod Running
 pub mod Through
 pub mod Recording
 pub mod Worlds
+pub mod Framing
+pub mod PlainRuns
 pub mod Rendering
 pub mod Probing

@@ -17,7 +17,7 @@ use Rattle.lc_cut.proofs.Building.{forest_of_is}
 use Rattle.lc_cut.proofs.Whole.{answer_near}
 use Rattle.lc_tool.specs.declared.status.Status.{Status}
 use Rattle.lc_tool.specs.Course.{at_once, told}
-use Rattle.lc_tool.specs.Words.{Command, probe, render}
+use Rattle.lc_tool.specs.Words.{Command, probe, render, plain}
 use Rattle.lc_tool.specs.Work.{Work}
 use Rattle.lc_tool.specs.Outcome.{probe_scene, lights_of, probe_size, probe_permille, probe_spot, probe_answer, probe_work, probe_course, course_of}
 use Rattle.lc_tool.specs.Probed.{ProbeRecorded, Recorded}
@@ -72,6 +72,7 @@ done_recorded (Some (probe name place direction)) files before now steps_before 
     probe_recorded name place direction files before now steps_before steps_now work proper.0 e slots
     (if_ok (probe_course name place direction files).end work (λ w. steps_now ≡ steps_before + w.evals) e counted)
 done_recorded (Some (render name)) files before now steps_before steps_now work proper e slots counted = tt
+done_recorded (Some (plain name)) files before now steps_before steps_now work proper e slots counted = tt
 
 some_both : {A : Type 0} (o : Option A) (P Q R : A → Type 0) → ((a : A) → P a → Q a → R a) → IfSome o P → IfSome o Q → IfSome o R
 some_both None P Q R f p q = tt

@@ -1,10 +1,9 @@
 -- What a render leaves.
-use Rattle.std.proofs.Common.{◌≡◌, ℕ, ◌+◌, ◌*◌, ◌≤◌, ◌⊎◌, List, [], ◌∷◌, ◌++◌, length, map, refl, sym, ◌∙◌, ap, subst, inl, inr, All, Option, Some, None, IfSome, IfOk, Ok}
-use Rattle.std.proofs.Math.Seq.{take-length}
+use Rattle.std.proofs.Common.{◌≡◌, ℕ, ◌+◌, ◌*◌, ◌≤◌, ◌⊎◌, List, [], ◌∷◌, ◌++◌, map, refl, sym, ◌∙◌, ap, subst, inl, inr, All, Option, Some, None, IfSome, Ok}
 use Rattle.std.proofs.lemmas.List.{map-append}
 use Rattle.std.proofs.lemmas.List.Elements.{All-nil, All-cons, All-map}
 use Rattle.lc_desk.specs.Calls.{Made, after_calls}
-use Rattle.lc_desk.specs.Desk.{DeskState, SlotState, Files, OnlyReads, appended, opened}
+use Rattle.lc_desk.specs.Desk.{DeskState, Files, OnlyReads}
 use Rattle.lc_desk.specs.declared.desk.Slot.TheVariants.{Picture, Bounds, Report}
 use Rattle.lc_desk.specs.declared.desk.PutStop.TheVariants as put_stop
 use Rattle.lc_rated.specs.Cuts.{IsFraction, IsNear}
@@ -21,18 +20,19 @@ use Rattle.lc_frame.specs.declared.stop.FrameStop.TheVariants as frame
 use Rattle.lc_tool.specs.declared.status.Status.{Status}
 use Rattle.lc_tool.specs.declared.status.Status.TheVariants.{Done, Usage, Stopped, Unwritten}
 use Rattle.lc_tool.specs.declared.world.World.{World}
-use Rattle.lc_tool.specs.Course.{at_once, goes_on, told}
-use Rattle.lc_tool.specs.Words.{Command, probe, render, command_of}
+use Rattle.lc_tool.specs.Course.{told}
+use Rattle.lc_tool.specs.Words.{Command, probe, render, plain, command_of}
 use Rattle.lc_tool.specs.Work.{Work}
-use Rattle.lc_tool.specs.Outcome.{course_of, outcome_told, render_course, render_work, world_of}
+use Rattle.lc_tool.specs.Outcome.{course_of, outcome_told, plain_work, render_work}
 use Rattle.lc_tool.specs.Status.{code}
 use Rattle.lc_tool.specs.Stopped.{Gave}
 use Rattle.lc_tool.specs.Ends.{Counts, Ends, Runs}
 use Rattle.lc_tool.specs.Rendered.{AreCounted, AreFractions, AreNear, HasPicture, HasRecord, IsRenderOf, LeavesParts, TellsWorld, recorded}
 use Rattle.lc_sample.proofs.SampleLemmas.{sample_each, sample_evals, sample_fraction, sample_near}
 use Rattle.lc_frame.proofs.WrittenLemmas.{picture_left, picture_part, record_left, record_part}
-use Rattle.lc_tool.proofs.Running.{AreOff, by_done, is_done, off_made, off_stopped, some_as, some_here}
-use Rattle.lc_tool.proofs.Through.{went_through, if_ok, ok_same, told_files}
+use Rattle.lc_tool.proofs.Running.{AreOff, by_done, is_done, off_made, off_stopped, some_as}
+use Rattle.lc_tool.proofs.Framing.{leaves_work, part_between, same_work as framed_work, tells_world, whole_part}
+use Rattle.lc_tool.proofs.Through.{told_files}
 use Rattle.lc_tool.proofs.Worlds.{IsWorld, world_is}
 
 -- ---- the samples of a world
@@ -62,22 +62,8 @@ each_recorded P world f =
 
 -- ---- the outcome where the words are a render and the files tell its world
 
-pub leaves_course : (words : List (List ℕ)) (held : Option Files) (world : World) (r : IsRenderOf words held world) → outcome_told words held ≡ Some (render_course r.name r.files)
-leaves_course words held world r = ap (λ o. told (course_of o) held) r.command ∙ ap (told (render_course r.name)) r.told
-
-world_end : (name : List ℕ) (files : Files) (world : World) → (world_of name files).end ≡ Ok world → (render_course name files).end ≡ Ok (render_work world)
-world_end name files world e = ap (λ end. (goes_on (world_of name files).reads end (λ w. at_once (Ok (render_work w)))).end) e
-
--- what is said of the outcome is said of the course to this work
-pub leaves_work : (words : List (List ℕ)) (held : Option Files) (world : World) (P : Work → Type 0) → IsRenderOf words held world → IfSome (outcome_told words held) (λ c. IfOk c.end P) → P (render_work world)
-leaves_work words held world P r h =
-    if_ok (render_course r.name r.files).end (render_work world) P (world_end r.name r.files world r.tells)
-    (some_here (outcome_told words held) (λ c. IfOk c.end P) (render_course r.name r.files) (leaves_course words held world r) h)
-
 same_work : (words : List (List ℕ)) (before start : DeskState) (work : Work) (world : World) → IsRenderOf words before.held world → IfSome (outcome_told words before.held) (Gave work before start) → work ≡ render_work world
-same_work words before start work world r h =
-    let gave = some_here (outcome_told words before.held) (Gave work before start) (render_course r.name r.files) (leaves_course words before.held world r) h in
-    ok_same work (render_work world) (sym gave.end ∙ world_end r.name r.files world r.tells)
+same_work words before start work world r h = framed_work render render_work (λ name files. refl) words before start work world r h
 
 is_render : (words : List (List ℕ)) (status : Status) (before now : DeskState) (world : World) → IsRenderOf words before.held world → Runs (command_of words) status (outcome_told words before.held) before now → Ends status frame_files (outcome_told words before.held) before now
 is_render words status before now world r h = subst (λ o. Runs o status (outcome_told words before.held) before now) r.command h
@@ -142,7 +128,7 @@ pub run_counted : (words : List (List ℕ)) (status : Status) (held : Option Fil
 run_counted words status held world steps_before steps_now r counts zero =
     let valid = render_is words held world r in
     work_counted world steps_before steps_now
-    (leaves_work words held world (λ w. steps_now ≡ steps_before + w.evals) r (counts (is_done status zero)))
+    (leaves_work render render_work (λ name files. refl) words held world (λ w. steps_now ≡ steps_before + w.evals) r (counts (is_done status zero)))
     (each_recorded (λ a. a.evals ≤ 2 * world.job.cut) world (λ ray. sample_evals world.job.cut world.job.permille world.scene ray valid.job.cut_some))
     (each_recorded (λ a. a.evals ≡ a.size) world (λ ray. sample_each world.job.cut world.job.permille world.scene ray))
 
@@ -151,9 +137,8 @@ run_counted words status held world steps_before steps_now r counts zero =
 tells : (command : Option Command) (files : Files) (work : Work) → (course_of command files).end ≡ Ok work → TellsWorld command files
 tells None files work e = tt
 tells (Some (probe name place direction)) files work e = tt
-tells (Some (render name)) files work e =
-    let w = went_through (world_of name files) (λ world. at_once (Ok (render_work world))) work e in
-    (w.value, w.stepped)
+tells (Some (render name)) files work e = tells_world render_work name files work e
+tells (Some (plain name)) files work e = tells_world plain_work name files work e
 
 pub run_world : (command : Option Command) (status : Status) (before now : DeskState) → Runs command status (told (course_of command) before.held) before now → code status ≡ 0 → IfSome before.held (TellsWorld command)
 run_world command status before now h zero =
@@ -168,10 +153,6 @@ off_report =
     All-cons (λ s. s ≡ Report → ⊥) Picture (Bounds ∷ []) (λ e. cc)
     (All-cons (λ s. s ≡ Report → ⊥) Bounds [] (λ e. cc) (All-nil (λ s. s ≡ Report → ⊥)))
 
--- the whole is a first part
-whole_part : (name bytes : List ℕ) (before now : SlotState) → now ≡ appended bytes (opened name before) → LeftPart name bytes before now
-whole_part name bytes before now e = inr (record { count = length bytes; held = e ∙ ap (λ b. appended b (opened name before)) (sym (take-length bytes)) })
-
 picture_stopped : (stop : FrameStop) (job : Job) (rows : List (List (List Answer))) (x y : DeskState) → StoppedIn stop (render_calls job rows) x y → LeftPart job.picture (picture_text job rows) x.slots.picture y.slots.picture
 picture_stopped (frame.Write slot) job rows x y h = picture_part job rows put_stop.Failed x y h.0
 picture_stopped frame.Memory job rows x y (inl same) = inl (ap (λ d. d.slots.picture) same)
@@ -185,10 +166,6 @@ record_stopped frame.Memory job rows x y (inr broke) = record_part job rows put_
 work_stopped : (stop : FrameStop) (world : World) (work : Work) (x y : DeskState) → work ≡ render_work world → StoppedIn stop work.calls x y → StoppedIn stop (render_calls world.job (answers_of world.job world.scene)) x y
 unfolding render_work
 work_stopped stop world work x y same h = subst (λ (w : Work). StoppedIn stop w.calls x y) same h
-
--- a part that was left between two slots is left between what these are
-part_between : (name bytes : List ℕ) (before x y now : SlotState) → x ≡ before → now ≡ y → LeftPart name bytes x y → LeftPart name bytes before now
-part_between name bytes before x y now e f h = subst (λ s. LeftPart name bytes s now) e (subst (λ s. LeftPart name bytes x s) (sym f) h)
 
 ends_parts : (words : List (List ℕ)) (status : Status) (before now : DeskState) (world : World) → IsRenderOf words before.held world → Ends status frame_files (outcome_told words before.held) before now → LeavesParts world before now
 ends_parts words Done before now world r h =

@@ -21,7 +21,7 @@ use Rattle.lc_tool.specs.declared.status.Stop.TheVariants.{Memory, Faulty, Absen
 use Rattle.lc_tool.specs.declared.status.Status.{Status}
 use Rattle.lc_tool.specs.declared.status.Status.TheVariants.{Done, Usage, Stopped, Unwritten}
 use Rattle.lc_tool.specs.Course.{Course, told}
-use Rattle.lc_tool.specs.Words.{Command, probe, render}
+use Rattle.lc_tool.specs.Words.{Command, probe, render, plain}
 use Rattle.lc_tool.specs.Work.{Work, calls_of}
 use Rattle.lc_tool.specs.Lines.{usage_line}
 use Rattle.lc_tool.specs.Outcome.{course_of, slots_of, status_of}
@@ -139,6 +139,7 @@ off_note (Some (probe name place direction)) = All-cons (λ s. s ≡ Note → �
 off_note (Some (render name)) =
     All-cons (λ s. s ≡ Note → ⊥) Picture (Bounds ∷ []) (λ e. cc)
     (All-cons (λ s. s ≡ Note → ⊥) Bounds [] (λ e. cc) (All-nil (λ s. s ≡ Note → ⊥)))
+off_note (Some (plain name)) = All-cons (λ s. s ≡ Note → ⊥) Picture [] (λ e. cc) (All-nil (λ s. s ≡ Note → ⊥))
 
 calls_off : (slot : Slot) (slots : List Slot) (calls : List Call) → AreOff slot slots → AreOn slots calls → All (IsOff slot) calls
 calls_off slot slots calls off on =

@@ -46,4 +46,5 @@ pub use Rattle.lc_sample.specs.Sampled
 pub use Rattle.lc_record.specs.Record
 pub use Rattle.lc_frame.specs.Files
 pub use Rattle.lc_frame.specs.Frames
+pub use Rattle.lc_frame.specs.PlainFrames
 pub use Rattle.lc_frame.specs.Stops

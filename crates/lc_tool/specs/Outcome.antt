@@ -26,8 +26,9 @@ use Rattle.lc_job.specs.declared.stop.JobStop.{JobStop}
 use Rattle.lc_job.specs.declared.stop.JobStop.TheVariants as job_stop
 use Rattle.lc_sample.specs.Scenes.{scene_of}
 use Rattle.lc_record.specs.Record.{line_bytes}
-use Rattle.lc_frame.specs.Files.{files as frame_files}
+use Rattle.lc_frame.specs.Files.{files as frame_files, picture_file}
 use Rattle.lc_frame.specs.Frames.{answers_of, evals_of, render_calls, samples}
+use Rattle.lc_frame.specs.PlainFrames.{plain_calls, plain_lights}
 use Rattle.lc_tool.specs.declared.status.Source.{Source}
 use Rattle.lc_tool.specs.declared.status.Source.TheVariants as source
 use Rattle.lc_tool.specs.declared.world.World.{World}
@@ -35,7 +36,7 @@ use Rattle.lc_tool.specs.Status.{source_code}
 use Rattle.lc_tool.specs.Course.{Course, Refusal, refuses, and_then, at_once, told}
 use Rattle.lc_tool.specs.Lines.{usage_line, absent_line, long_line, fault_line, missing_line, file_limit}
 use Rattle.lc_tool.specs.Work.{Work}
-use Rattle.lc_tool.specs.Words.{Command, probe, render, command_of}
+use Rattle.lc_tool.specs.Words.{Command, probe, render, plain, command_of}
 
 -- ---- reads
 
@@ -166,8 +167,21 @@ render_work world = record {
   evals = evals_of (samples (answers_of world.job world.scene));
 }
 
+-- the course of a command on the world of a job's file
+abbrev pub frame_course : (World → Work) → List ℕ → Files → Course Work
+frame_course work name files = and_then (world_of name files) (λ world. at_once (Ok (work world)))
+
 abbrev pub render_course : List ℕ → Files → Course Work
-render_course name files = and_then (world_of name files) (λ world. at_once (Ok (render_work world)))
+render_course name files = frame_course render_work name files
+
+-- ---- plain
+
+-- the picture of a world by the sums over all lights; no light is evaluated to choose a cut
+unfoldable pub plain_work : World → Work
+plain_work world = record { calls = plain_calls world.job (plain_lights world.job world.scene); evals = 0 }
+
+abbrev pub plain_course : List ℕ → Files → Course Work
+plain_course name files = frame_course plain_work name files
 
 -- ---- all commands
 
@@ -175,6 +189,7 @@ abbrev pub course_of : Option Command → Files → Course Work
 course_of None files = at_once (refuses 2 usage_line)
 course_of (Some (probe name place direction)) files = probe_course name place direction files
 course_of (Some (render name)) files = render_course name files
+course_of (Some (plain name)) files = plain_course name files
 
 -- the outcome of these words over these files
 abbrev pub outcome : List (List ℕ) → Files → Course Work
@@ -194,3 +209,4 @@ abbrev pub slots_of : Option Command → List Slot
 slots_of None = []
 slots_of (Some (probe name place direction)) = Report ∷ []
 slots_of (Some (render name)) = frame_files
+slots_of (Some (plain name)) = picture_file

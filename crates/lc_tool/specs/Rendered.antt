@@ -1,4 +1,4 @@
--- What `render` has left where it is done, and what it may have left where it is not.
+-- What `render` and `plain` have left where they are done, and what they may have left where they are not.
 use Rattle.std.specs.Prelude.{◌≡◌, ◌+◌, ◌*◌, ◌≤◌, ◌⊎◌, ℕ, List, All, Option, Some, None, IfSome, Ok}
 use Rattle.lc_desk.specs.Desk.{DeskState, Files, appended, opened}
 use Rattle.lc_rated.specs.declared.answer.Answer.{Answer}
@@ -7,23 +7,33 @@ use Rattle.lc_view.specs.Samples.{picture_rays}
 use Rattle.lc_sample.specs.Sampled.{light_of, sample_of}
 use Rattle.lc_frame.specs.Files.{LeftPart}
 use Rattle.lc_frame.specs.Frames.{answers_of, evals_of, flat, picture_text, record_text, samples}
+use Rattle.lc_frame.specs.PlainFrames.{plain_lights, plain_picture}
 use Rattle.lc_tool.specs.declared.world.World.{World}
 use Rattle.lc_tool.specs.Outcome.{world_of}
-use Rattle.lc_tool.specs.Words.{Command, probe, render, command_of}
+use Rattle.lc_tool.specs.Words.{Command, probe, render, plain, command_of}
 
--- the words are `render`, and by the files that the desk tells this is the world of its job
-pub record IsRenderOf (words : List (List ℕ)) (held : Option Files) (world : World) : Type 0 where
+-- the words are a command on a job, and by the files that the desk tells this is the world of that job
+pub record IsOf (asks : List ℕ → Command) (words : List (List ℕ)) (held : Option Files) (world : World) : Type 0 where
   pub name : List ℕ
-  pub command : command_of words ≡ Some (render name)
+  pub command : command_of words ≡ Some (asks name)
   pub files : Files
   pub told : held ≡ Some files
   pub tells : (world_of name files).end ≡ Ok world
 
--- where the words are `render` and the desk tells its files, these tell the world of the job
+-- the words are `render`
+abbrev pub IsRenderOf : List (List ℕ) → Option Files → World → Type 0
+IsRenderOf words held world = IsOf render words held world
+
+-- the words are `plain`
+abbrev pub IsPlainOf : List (List ℕ) → Option Files → World → Type 0
+IsPlainOf words held world = IsOf plain words held world
+
+-- where the words are a command on a job and the desk tells its files, these tell the world of the job
 abbrev pub TellsWorld : Option Command → Files → Type 0
 TellsWorld None files = Unit {0}
 TellsWorld (Some (probe name place direction)) files = Unit {0}
 TellsWorld (Some (render name)) files = (world : World) × ((world_of name files).end ≡ Ok world)
+TellsWorld (Some (plain name)) files = (world : World) × ((world_of name files).end ≡ Ok world)
 
 abbrev pub HasWorld : List (List ℕ) → Option Files → Type 0
 HasWorld words held = IfSome held (TellsWorld (command_of words))
@@ -60,4 +70,18 @@ HasPicture world before now = now.slots.picture ≡ appended (picture_text world
 pub record LeavesParts (world : World) (before now : DeskState) : Type 0 where
   pub picture : LeftPart world.job.picture (picture_text world.job (answers_of world.job world.scene)) before.slots.picture now.slots.picture
   pub bounds : LeftPart world.job.bounds (record_text world.job (answers_of world.job world.scene)) before.slots.bounds now.slots.bounds
+  pub report : now.slots.report ≡ before.slots.report
+
+-- ---- plain
+
+-- the picture's file has exactly the picture of the sums over all lights, each with its own visibility against every triangle,
+-- under the job's name
+abbrev pub HasPlainPicture : World → DeskState → DeskState → Type 0
+HasPlainPicture world before now = now.slots.picture ≡ appended (plain_picture world.job (plain_lights world.job world.scene)) (opened world.job.picture before.slots.picture)
+
+-- the picture's file is as it was, or was begun under the job's name and has a first part of those bytes; the record's file
+-- and Report are as they were
+pub record LeavesPlainPart (world : World) (before now : DeskState) : Type 0 where
+  pub picture : LeftPart world.job.picture (plain_picture world.job (plain_lights world.job world.scene)) before.slots.picture now.slots.picture
+  pub bounds : now.slots.bounds ≡ before.slots.bounds
   pub report : now.slots.report ≡ before.slots.report

@@ -13,8 +13,10 @@ texts words = map (λ word. word.now) words
 pub data Command : Type 0 where
   -- the name of a light file, a place, and the direction of a normal
   probe : List ℕ → Vec3 → Vec3 → Command
-  -- the name of a job
+  -- the name of a job, whose picture and record are made
   render : List ℕ → Command
+  -- the name of a job, whose picture is made by the sum over all lights
+  plain : List ℕ → Command
 
 abbrev pub in_range : Result ℤ NumFault → Option ℤ
 in_range (Err fault) = None
@@ -48,4 +50,6 @@ abbrev pub command_of : List (List ℕ) → Option Command
 command_of words =
     if begins words (codes "probe") 8
     then probe_of (word_at words 1) (vector_at words 2) (vector_at words 5)
-    else (if begins words (codes "render") 2 then Some (render (word_at words 1)) else None)
+    else (if begins words (codes "render") 2
+    then Some (render (word_at words 1))
+    else (if begins words (codes "plain") 2 then Some (plain (word_at words 1)) else None))

@@ -4,6 +4,7 @@
 mod fixed;
 mod names;
 mod note;
+mod plain;
 mod probe;
 mod program;
 mod read;

@@ -10,9 +10,10 @@ ghost use Rattle.lc_tool.specs.Status.{source_code};
 ghost use Rattle.lc_tool.specs.Outcome.{outcome_told};
 ghost use Rattle.lc_tool.specs.Ends.{Runs, Counts, Does, Stops, Breaks, HasFailed, HasLine, SameOutputs, IsComplete, OpensOnly, no_faults};
 ghost use Rattle.lc_tool.specs.Probed.{Records};
-ghost use Rattle.lc_tool.specs.Rendered.{AreCounted, AreFractions, AreNear, HasPicture, HasRecord, HasWorld, IsRenderOf, LeavesParts};
+ghost use Rattle.lc_tool.specs.Rendered.{AreCounted, AreFractions, AreNear, HasPicture, HasPlainPicture, HasRecord, HasWorld, IsPlainOf, IsRenderOf, LeavesParts, LeavesPlainPart};
 
 use crate::note::note_usage;
+use crate::plain::plain;
 use crate::probe::probe;
 use crate::render::render;
 use crate::status::Status;
@@ -40,6 +41,7 @@ fn attempt<D: Desk, L: Ledger>(
             },
         ) => probe(alloc, lights, place, direction, desk, steps),
         Some(Command::Render { job }) => render(alloc, job, desk, steps),
+        Some(Command::Plain { job }) => plain(alloc, job, desk),
         None => {
             note_usage(desk);
             Status::Usage
@@ -72,12 +74,19 @@ pub fn run<D: Desk, L: Ledger>(
         HasPicture world (D.state desk.old) (D.state desk.new) }
     ensures world { result ≡ 0 → HasWorld (texts words.now) (D.state desk.old).held }
 
+    // Where `plain` is done over a desk that tells its files, the picture's file is exactly the tone mapping of the sums over
+    // all lights.
+    ensures plain { result ≡ 0 → (world : World) → IsPlainOf (texts words.now) (D.state desk.old).held world →
+        HasPlainPicture world (D.state desk.old) (D.state desk.new) }
+
     // Whatever the status, each of the two files of `render` is as it was, or was begun under the job's name and has a first
     // part of those bytes.
     ensures parts { (world : World) → IsRenderOf (texts words.now) (D.state desk.old).held world →
         LeavesParts world (D.state desk.old) (D.state desk.new) }
+    ensures plain_part { (world : World) → IsPlainOf (texts words.now) (D.state desk.old).held world →
+        LeavesPlainPart world (D.state desk.old) (D.state desk.new) }
 
-    // It reads no file but those of the outcome, in order and each once, and begins none but those that it writes.
+    // It reads no file but those of the outcome, in their order, and begins none but those that it writes.
     ensures opens { IfSome (outcome_told (texts words.now) (D.state desk.old).held)
         (OpensOnly (D.state desk.old) (D.state desk.new)) }
 

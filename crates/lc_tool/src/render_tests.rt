@@ -337,3 +337,29 @@ fn renders_a_cube(rt: HostRuntime) -> Result<(), Fail> {
     assert_eq!(rt; record.iter().filter(|b| **b == b'\n').count(), 3073);
     Ok(())
 }
+
+// The sum over all lights: one light is its own cut, so the picture is that of the render. Nothing is recorded.
+#[test]
+fn makes_plain_pictures(rt: HostRuntime) -> Result<(), Fail> {
+    let mut desk = desk_with(rt.alloc(), NAMES, VIEW, SCENE, LIGHT)?;
+    assert_eq!(rt; serve(rt.alloc(), &["plain", "j.txt"], &mut desk), 0);
+    assert_eq!(rt; desk.told(Slot::Picture), PICTURE);
+    for slot in [Slot::Bounds, Slot::Report, Slot::Note] {
+        assert_eq!(rt; desk.told(slot), b"".as_slice());
+    }
+    // A row that is refused leaves the first bytes that were taken.
+    let mut desk = desk_with(rt.alloc(), NAMES, VIEW, SCENE, LIGHT)?;
+    desk.fail(6, 2)?;
+    assert_eq!(rt; serve(rt.alloc(), &["plain", "j.txt"], &mut desk), 9);
+    assert_eq!(rt;
+        desk.told(Slot::Picture),
+        b"P6\n1 1\n255\n\xE4\xE4".as_slice()
+    );
+    assert_eq!(rt; desk.told(Slot::Note), b"picture: write fault\n".as_slice());
+    let words = ["plain", "j.txt"];
+    let mut desk = MemoryDesk::new(rt.alloc());
+    expect_note(&rt, &words, &mut desk, 7, "j.txt: absent\n");
+    let mut desk = desk_with(rt.alloc(), NAMES, VIEW, "v 0 0\n", LIGHT)?;
+    expect_note(&rt, &words, &mut desk, 4, "s.obj: line 1: kind 2\n");
+    Ok(())
+}

@@ -20,6 +20,10 @@ pub enum Command<'a> {
     Render {
         job: &'a str,
     },
+    /// The picture of a job by the sum over all lights.
+    Plain {
+        job: &'a str,
+    },
 }
 
 const MOST: u64 = 50_000_000;
@@ -73,6 +77,7 @@ pub fn read_words<'a>(words: &[&'a str]) -> Option<Command<'a>>
             probe_command(lights, vector(x, y, z), vector(nx, ny, nz))
         }
         [word, job] if *word == "render" => Some(Command::Render { job }),
+        [word, job] if *word == "plain" => Some(Command::Plain { job }),
         _ => None,
     }
 }

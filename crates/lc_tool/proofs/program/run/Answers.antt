@@ -7,6 +7,7 @@ use Rattle.lc_tool.specs.Ends.{HasLine}
 use Rattle.lc_tool.proofs.Running.{by_stop, by_done, by_silent, by_failed, by_memory, by_usage, code_most, run_line, run_unwritten, run_complete, run_steady, run_opens, faulty_more}
 use Rattle.lc_tool.proofs.Proper.{command_proper}
 use Rattle.lc_tool.proofs.Recording.{run_recorded}
+use Rattle.lc_tool.proofs.PlainRuns.{run_plain, run_plain_part}
 use Rattle.lc_tool.proofs.Rendering.{render_fractions, render_near, run_counted, run_parts, run_picture, run_record, run_world}
 use Rattle.lc_tool.proofs.program.run.Goals as goal
 
@@ -36,6 +37,14 @@ returns-clause-picture g c = λ zero world r.
 pub returns-clause-world : goal.returns-clause-world
 returns-clause-world g c = λ zero.
     run_world (command_of (texts c.args.words.now)) c.attempt.result (g.D.Desk.state c.args.desk.now) (g.D.Desk.state c.attempt.new.desk) c.attempt.ensures.runs (sym c.code.ensures ∙ zero)
+
+pub returns-clause-plain : goal.returns-clause-plain
+returns-clause-plain g c = λ zero world r.
+    run_plain (texts c.args.words.now) c.attempt.result (g.D.Desk.state c.args.desk.now) (g.D.Desk.state c.attempt.new.desk) world r c.attempt.ensures.runs (sym c.code.ensures ∙ zero)
+
+pub returns-clause-plain_part : goal.returns-clause-plain_part
+returns-clause-plain_part g c = λ world r.
+    run_plain_part (texts c.args.words.now) c.attempt.result (g.D.Desk.state c.args.desk.now) (g.D.Desk.state c.attempt.new.desk) world r c.attempt.ensures.runs
 
 pub returns-clause-parts : goal.returns-clause-parts
 returns-clause-parts g c = λ world r.

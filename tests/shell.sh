@@ -43,7 +43,7 @@ case_of 'no words' 2 '' "$usage" "$program"
 case_of 'a word too few' 2 '' "$usage" "$program" probe l.txt 0 0 0 0 0
 case_of 'a number out of range' 2 '' "$usage" "$program" probe l.txt 0 0 5000.0001 0 0 1
 case_of 'a word that is no text' 2 '' "$usage" "$program" probe $'\xff' 0 0 0 0 0 1
-case_of 'a command that is not built yet' 2 '' "$usage" "$program" plain j.txt
+case_of 'a command that is not built yet' 2 '' "$usage" "$program" audit j.txt 1
 case_of 'a faulty number' 6 '' 'faulty.txt: line 1: kind 2' probe faulty.txt
 case_of 'a missing file' 7 '' 'none.txt: absent' probe none.txt
 case_of 'a name without letters' 7 '' ': absent' probe ''
@@ -76,6 +76,11 @@ render() { "$program" render "$1"; }
 case_of 'a picture' 0 '' '' render j.txt
 case_of 'the header of the picture' 0 "$(printf 'P6\n1 1\n255\n')" '' head -c 11 p.ppm
 case_of 'the record' 0 'LCB 1 1 1 1 1000 20' '' head -n 1 b.lcb
+cp p.ppm rendered.ppm
+plain() { "$program" plain "$1"; }
+case_of 'a picture by the full sum' 0 '' '' plain j.txt
+case_of 'the same picture' 0 '' '' cmp p.ppm rendered.ppm
+case_of 'a missing job of a plain picture' 7 '' 'none.txt: absent' plain none.txt
 case_of 'a missing job' 7 '' 'none.txt: absent' render none.txt
 echo 'eye 0 0' >bad.txt
 case_of 'a faulty job' 3 '' 'bad.txt: line 1: kind 3' render bad.txt

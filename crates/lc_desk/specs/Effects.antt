@@ -1,5 +1,5 @@
 -- What each answer of a call does to what a desk tells.
-use Rattle.std.specs.Prelude.{ℕ, List, [], ◌∷◌, ◌++◌, Option, Some, None, Result, Ok, Err, take}
+use Rattle.std.specs.Prelude.{◌≡◌, ℕ, List, [], ◌∷◌, ◌++◌, Option, Some, None, Result, Ok, Err, take}
 use Rattle.lc_desk.specs.Causes.{raised}
 use Rattle.lc_desk.specs.declared.desk.Slot.{Slot}
 use Rattle.lc_desk.specs.declared.desk.ReadStop.{ReadStop}
@@ -20,6 +20,13 @@ counts_after (Err read_stop.Memory) d = d
 abbrev pub after_read : {T : Type 0} → Result T ReadStop → List ℕ → DeskState → DeskState
 after_read result name d = record (counts_after result d) { asked = d.asked ++ name ∷ [] }
 
+-- a read raises the one count of its cause by one, and no other
+pub record CountsRead {T : Type 0} (result : Result T ReadStop) (before now : DeskState) : Type 0 where
+  pub faults : now.faults ≡ (counts_after result before).faults
+  pub absents : now.absents ≡ (counts_after result before).absents
+  pub longs : now.longs ≡ (counts_after result before).longs
+  pub shorts : now.shorts ≡ before.shorts
+
 -- a slot's count of faults rises by one where a begin or a put of it answers Failed
 abbrev pub faults_after : {T : Type 0} → Result T PutStop → ℕ → ℕ
 faults_after (Ok _) n = n
@@ -31,6 +38,13 @@ abbrev pub shorts_after : {T : Type 0} → Result T PutStop → ℕ → ℕ
 shorts_after (Ok _) n = n
 shorts_after (Err put_stop.Failed) n = n
 shorts_after (Err put_stop.Memory) n = raised n
+
+-- a begin or a put of the slot raises the one count of its cause by one, and no other
+pub record CountsPut {T : Type 0} (result : Result T PutStop) (slot : Slot) (before now : DeskState) : Type 0 where
+  pub faults : now.faults ≡ with_fault before.faults slot (faults_after result (fault_at before.faults slot))
+  pub shorts : now.shorts ≡ shorts_after result before.shorts
+  pub absents : now.absents ≡ before.absents
+  pub longs : now.longs ≡ before.longs
 
 -- a begin that is answered Ok opens the slot
 abbrev pub slot_after_begin : {T : Type 0} → Result T PutStop → List ℕ → SlotState → SlotState

@@ -1,5 +1,5 @@
 -- What the desk of the system tells: which slots were begun, its counts and what it was asked, but no contents.
-use Rattle.std.specs.Prelude.{◌≡◌, ℕ, List, [], Bool, false, Option, None, Some}
+use Rattle.std.specs.Prelude.{◌≡◌, ℕ, List, [], Bool, false, Option, None, Some, take}
 use Rattle.std.specs.Io.KnownBytes.{Appends}
 use Rattle.lc_desk.specs.Desk.{DeskState, SlotState}
 use Rattle.lc_desk.specs.declared.tally.Tally.{Tally}
@@ -37,3 +37,11 @@ untold_state = record {
 -- a file that was made for a slot has these bytes more, where it tells what it holds
 abbrev pub HasMore : {F : Type 0} → (F → Option (List ℕ)) → List ℕ → Option F → Option F → Type 0
 HasMore {F} contents piece before now = (f : F) → before ≡ Some f → (g : F) × (now ≡ Some g) × Appends (contents f) (contents g) piece
+
+-- known bytes gained a first part of the piece, and nothing else
+abbrev pub AppendsPart : Option (List ℕ) → Option (List ℕ) → List ℕ → Type 0
+AppendsPart before now piece = (count : ℕ) × Appends before now (take count piece)
+
+-- a file that was made for a slot has a first part of these bytes more, where it tells what it holds
+abbrev pub HasPart : {F : Type 0} → (F → Option (List ℕ)) → List ℕ → Option F → Option F → Type 0
+HasPart contents piece before now = (count : ℕ) × HasMore contents (take count piece) before now

@@ -4,4 +4,5 @@ pub mod Desk
 pub mod Effects
 pub mod Host
 pub mod Memory
+pub mod System
 pub mod Words

@@ -1,15 +1,18 @@
 // The desk of the operating system: files by their paths, Report on standard output, Note on standard error.
-ghost use Rattle.std.specs.Prelude.{◌≡◌, ◌≢◌, ◌<◌, ◌≤◌, ◌++◌, ◌∷◌, ℕ, [], List, length, None, Some, OnOk, OnErr, IsErrOf, IsSome, Err};
+ghost use Rattle.std.specs.Prelude.{◌≡◌, ◌≢◌, ◌<◌, ◌≤◌, ◌++◌, ◌∷◌, ℕ, [], List, length, None, Some, OnOk, OnErr, IsErr, IsErrAnd, IsErrOf, IfErr, IfOk, IfSome, IsOk, IsSome, Err};
 ghost use Rattle.lc_desk.specs.Causes.{Rose};
 ghost use Rattle.lc_desk.specs.Desk.{CanPut, OnlyReads, OnlySlot, Told, TookPart, appended, fault_at, opened, slot_at};
-ghost use Rattle.lc_desk.specs.Effects.{after_begin, after_put, after_read};
-ghost use Rattle.lc_desk.specs.Host.{HasMore, tally_state, untold_state};
+ghost use Rattle.lc_desk.specs.Effects.{CountsPut, CountsRead, after_begin, after_put, after_read};
+ghost use Rattle.lc_desk.specs.Host.{AppendsPart, HasMore, HasPart, tally_state, untold_state};
+ghost use Rattle.lc_desk.specs.System.{StopsOpen, StopsPut};
+ghost use Rattle.std.specs.Io.KnownBytes.{Appends};
 
-use crate::streams::{put_stop, read_within, write_piece};
+use crate::answers::{open_stop, put_stop, room_for};
+use crate::streams::{read_within, write_piece};
 use crate::tally::Tally;
 use crate::{Desk, PutStop, ReadStop, Slot};
 use std::fs::OpenFile;
-use std::io::{ErrorKind, Write};
+use std::io::{Read, Write};
 use std::rt::Files;
 use std::{fs, io};
 
@@ -42,32 +45,25 @@ impl<'a, R: Files + Print, E: Print> HostDesk<'a, R, E> {
     }
 }
 
-// Reads a file, whose length is looked at first.
-fn read_file<R: Files>(
-    runtime: &R,
-    name: &str,
+// Reads a file that was opened, whose length is looked at first.
+fn read_opened<F: OpenFile + Read + Drop>(
+    opened: io::Result<F>,
     limit: u64,
     into: &mut Vec<u8>,
 ) -> Result<(), ReadStop>
     requires { length into.old.items ≤ limit }
+    ensures refused { IfErr opened (λ error. IsErrAnd result (StopsOpen error)) }
+    ensures present { IsErrOf result ReadStop.Absent → IsErr opened }
+    ensures bytes { IfOk opened (λ file. OnOk result (IfSome (F.remaining file) (λ left. into.new.items ≡ into.old.items ++ left))) }
     ensures within { OnOk result (length into.new.items ≤ limit) }
 {
-    let mut file = match fs::open(runtime, name) {
+    let mut file = match opened {
         Ok(file) => file,
-        Err(error) if error.kind() == ErrorKind::NotFound => return Err(ReadStop::Absent),
-        Err(_) => return Err(ReadStop::Failed),
+        Err(error) => return Err(open_stop(&error)),
     };
-    let Ok(found) = file.metadata() else {
-        return Err(ReadStop::Failed);
-    };
-    if found.is_file() {
-        let length = found.len();
-        if length > limit {
-            return Err(ReadStop::Long);
-        }
-        if into.reserve_exact(length as usize).is_err() {
-            return Err(ReadStop::Memory);
-        }
+    let room = room_for(file.metadata(), limit)?;
+    if into.reserve_exact(room as usize).is_err() {
+        return Err(ReadStop::Memory);
     }
     read_within(&mut file, limit, into)
 }
@@ -78,12 +74,15 @@ fn create<R: Files>(runtime: &R, name: &str) -> io::Result<R::File> {
     fs::create(runtime, name)?.try_clone()
 }
 
-// Makes the file of a slot, in place of the one that the slot had.
-fn make<R: Files>(runtime: &R, name: &str, file: &mut Option<R::File>) -> Result<(), PutStop>
-    ensures made { OnOk result (IsSome file.new) }
+// Gives a slot the file that was made, in place of the one that it had.
+fn place<F: Drop>(made: io::Result<F>, file: &mut Option<F>) -> Result<(), PutStop>
+    ensures placed { IfOk made (λ made. file.new ≡ Some made) }
+    ensures ok { IsOk made → IsOk result }
+    ensures refused { IfErr made (λ error. IsErrAnd result (StopsPut error)) }
+    ensures some { OnOk result (IsSome file.new) }
     ensures kept { OnErr result (file.new ≡ file.old) }
 {
-    match create(runtime, name) {
+    match made {
         Ok(made) => {
             *file = Some(made);
             Ok(())
@@ -95,11 +94,42 @@ fn make<R: Files>(runtime: &R, name: &str, file: &mut Option<R::File>) -> Result
 // Writes a piece to a slot's file. A slot without one takes nothing.
 fn write_to<F: Write>(file: &mut Option<F>, piece: &[u8]) -> Result<(), PutStop>
     ensures ok { OnOk result (HasMore F.contents piece.now file.old file.new) }
+    ensures part { OnErr result (HasPart F.contents piece.now file.old file.new) }
     ensures none { file.old ≡ None → result ≡ Err PutStop.Failed }
 {
     match file {
         Some(file) => write_piece(file, piece),
         None => Err(PutStop::Failed),
+    }
+}
+
+// Writes a piece to the file or the stream of a slot, and to no other.
+fn put_to<F: Write, O: Write, N: Write>(
+    slot: Slot,
+    picture: &mut Option<F>,
+    bounds: &mut Option<F>,
+    report: &mut O,
+    note: &mut N,
+    piece: &[u8],
+) -> Result<(), PutStop>
+    ensures picture { OnOk result (slot ≡ Slot.Picture → HasMore F.contents piece.now picture.old picture.new) }
+    ensures picture_part { OnErr result (slot ≡ Slot.Picture → HasPart F.contents piece.now picture.old picture.new) }
+    ensures other_picture { slot ≢ Slot.Picture → picture.new ≡ picture.old }
+    ensures bounds { OnOk result (slot ≡ Slot.Bounds → HasMore F.contents piece.now bounds.old bounds.new) }
+    ensures bounds_part { OnErr result (slot ≡ Slot.Bounds → HasPart F.contents piece.now bounds.old bounds.new) }
+    ensures other_bounds { slot ≢ Slot.Bounds → bounds.new ≡ bounds.old }
+    ensures report { OnOk result (slot ≡ Slot.Report → Appends (O.contents report.old) (O.contents report.new) piece.now) }
+    ensures report_part { OnErr result (slot ≡ Slot.Report → AppendsPart (O.contents report.old) (O.contents report.new) piece.now) }
+    ensures other_report { slot ≢ Slot.Report → report.new ≡ report.old }
+    ensures note { OnOk result (slot ≡ Slot.Note → Appends (N.contents note.old) (N.contents note.new) piece.now) }
+    ensures note_part { OnErr result (slot ≡ Slot.Note → AppendsPart (N.contents note.old) (N.contents note.new) piece.now) }
+    ensures other_note { slot ≢ Slot.Note → note.new ≡ note.old }
+{
+    match slot {
+        Slot::Picture => write_to(picture, piece),
+        Slot::Bounds => write_to(bounds, piece),
+        Slot::Report => write_piece(report, piece),
+        Slot::Note => write_piece(note, piece),
     }
 }
 
@@ -116,6 +146,7 @@ impl<'a, R: Files + Print, E: Print> Desk for HostDesk<'a, R, E> {
         ensures long { IsErrOf result ReadStop.Long → Rose (tally_state self.old.tally).longs (tally_state self.new.tally).longs }
         ensures long_told { IsErrOf result ReadStop.Long → Told (tally_state self.old.tally).held name.now (λ file. (bytes : List ℕ) × (file ≡ Some bytes) × (limit < length bytes)) }
         ensures failed { IsErrOf result ReadStop.Failed → Rose (tally_state self.old.tally).faults.reads (tally_state self.new.tally).faults.reads }
+        ensures counted { CountsRead result (tally_state self.old.tally) (tally_state self.new.tally) }
         ensures asked { (tally_state self.new.tally).asked ≡ (tally_state self.old.tally).asked ++ name.now ∷ [] }
         ensures same { OnlyReads (tally_state self.old.tally) (tally_state self.new.tally) }
 
@@ -125,7 +156,7 @@ impl<'a, R: Files + Print, E: Print> Desk for HostDesk<'a, R, E> {
         ensures files_kept { (self.new.picture ≡ self.old.picture) × (self.new.bounds ≡ self.old.bounds) }
     {
         into.clear();
-        let outcome = read_file(self.runtime, name, limit, into);
+        let outcome = read_opened(fs::open(self.runtime, name), limit, into);
         if outcome.is_err() {
             into.clear();
         }
@@ -139,6 +170,7 @@ impl<'a, R: Files + Print, E: Print> Desk for HostDesk<'a, R, E> {
         ensures kept { OnErr result ((tally_state self.new.tally).slots ≡ (tally_state self.old.tally).slots) }
         ensures failed { IsErrOf result PutStop.Failed → Rose (fault_at (tally_state self.old.tally).faults slot) (fault_at (tally_state self.new.tally).faults slot) }
         ensures memory { IsErrOf result PutStop.Memory → Rose (tally_state self.old.tally).shorts (tally_state self.new.tally).shorts }
+        ensures counted { CountsPut result slot (tally_state self.old.tally) (tally_state self.new.tally) }
         ensures asked { (tally_state self.new.tally).begins ≡ (tally_state self.old.tally).begins ++ (slot, name.now) ∷ [] }
         ensures same { OnlySlot slot (tally_state self.old.tally) (tally_state self.new.tally) }
 
@@ -152,8 +184,8 @@ impl<'a, R: Files + Print, E: Print> Desk for HostDesk<'a, R, E> {
         ensures other_bounds { slot ≢ Slot.Bounds → self.new.bounds ≡ self.old.bounds }
     {
         let outcome = match slot {
-            Slot::Picture => make(self.runtime, name, &mut self.picture),
-            Slot::Bounds => make(self.runtime, name, &mut self.bounds),
+            Slot::Picture => place(create(self.runtime, name), &mut self.picture),
+            Slot::Bounds => place(create(self.runtime, name), &mut self.bounds),
             Slot::Report => Ok(()),
             Slot::Note => Ok(()),
         };
@@ -169,6 +201,7 @@ impl<'a, R: Files + Print, E: Print> Desk for HostDesk<'a, R, E> {
         ensures part { IsErrOf result PutStop.Failed → TookPart piece.now (slot_at (tally_state self.old.tally).slots slot) (slot_at (tally_state self.new.tally).slots slot) }
         ensures memory { IsErrOf result PutStop.Memory → Rose (tally_state self.old.tally).shorts (tally_state self.new.tally).shorts }
         ensures kept { IsErrOf result PutStop.Memory → (tally_state self.new.tally).slots ≡ (tally_state self.old.tally).slots }
+        ensures counted { CountsPut result slot (tally_state self.old.tally) (tally_state self.new.tally) }
         ensures asked { (tally_state self.new.tally).begins ≡ (tally_state self.old.tally).begins }
         ensures same { OnlySlot slot (tally_state self.old.tally) (tally_state self.new.tally) }
 
@@ -178,15 +211,16 @@ impl<'a, R: Files + Print, E: Print> Desk for HostDesk<'a, R, E> {
         // The files take what is put, where they tell what they hold.
         ensures picture { OnOk result (slot ≡ Slot.Picture → HasMore R.File.contents piece.now self.old.picture self.new.picture) }
         ensures bounds { OnOk result (slot ≡ Slot.Bounds → HasMore R.File.contents piece.now self.old.bounds self.new.bounds) }
+        // Where a put is refused, they take a part of it and nothing else.
+        ensures picture_part { OnErr result (slot ≡ Slot.Picture → HasPart R.File.contents piece.now self.old.picture self.new.picture) }
+        ensures bounds_part { OnErr result (slot ≡ Slot.Bounds → HasPart R.File.contents piece.now self.old.bounds self.new.bounds) }
         ensures other_picture { slot ≢ Slot.Picture → self.new.picture ≡ self.old.picture }
         ensures other_bounds { slot ≢ Slot.Bounds → self.new.bounds ≡ self.old.bounds }
     {
-        let outcome = match slot {
-            Slot::Picture => write_to(&mut self.picture, piece),
-            Slot::Bounds => write_to(&mut self.bounds, piece),
-            Slot::Report => write_piece(&mut io::writer(self.runtime), piece),
-            Slot::Note => write_piece(&mut io::writer(self.errors), piece),
-        };
+        let report = &mut io::writer(self.runtime);
+        let note = &mut io::writer(self.errors);
+        let (picture, bounds) = (&mut self.picture, &mut self.bounds);
+        let outcome = put_to(slot, picture, bounds, report, note, piece);
         self.tally.put(slot, outcome);
         outcome
     }

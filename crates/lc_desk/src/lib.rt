@@ -1,6 +1,7 @@
 //! The desk: files that are read by name, and four slots that are written.
 #![tactic(auto)]
 
+mod answers;
 mod desk;
 mod host;
 mod kept;

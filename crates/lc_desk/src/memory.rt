@@ -3,7 +3,7 @@ ghost use Rattle.std.specs.Prelude.{◌≡◌, ◌==◌, ◌<◌, ◌≤◌, ◌
 ghost use Rattle.std.specs.Str.{bytes_eq};
 ghost use Rattle.lc_desk.specs.Causes.{Rose};
 ghost use Rattle.lc_desk.specs.Desk.{slot_at, fault_at, opened, appended, TookPart, OnlyReads, OnlySlot, CanPut, Told};
-ghost use Rattle.lc_desk.specs.Effects.{after_read, after_begin, after_put, part_of};
+ghost use Rattle.lc_desk.specs.Effects.{CountsPut, CountsRead, after_read, after_begin, after_put, part_of};
 ghost use Rattle.lc_desk.specs.Memory.{memory_state, memory_view, empty_view, taken_at as taken_by, file_of, taken_next, read_stop, called, or_else};
 
 use crate::kept::Kept;
@@ -120,6 +120,7 @@ impl Desk for MemoryDesk {
         ensures long { IsErrOf result ReadStop.Long → Rose (memory_state self.old).longs (memory_state self.new).longs }
         ensures long_told { IsErrOf result ReadStop.Long → Told (memory_state self.old).held name.now (λ file. (bytes : List ℕ) × (file ≡ Some bytes) × (limit < length bytes)) }
         ensures failed { IsErrOf result ReadStop.Failed → Rose (memory_state self.old).faults.reads (memory_state self.new).faults.reads }
+        ensures counted { CountsRead result (memory_state self.old) (memory_state self.new) }
         ensures asked { (memory_state self.new).asked ≡ (memory_state self.old).asked ++ name.now ∷ [] }
         ensures same { OnlyReads (memory_state self.old) (memory_state self.new) }
 
@@ -158,6 +159,7 @@ impl Desk for MemoryDesk {
         ensures kept { OnErr result ((memory_state self.new).slots ≡ (memory_state self.old).slots) }
         ensures failed { IsErrOf result PutStop.Failed → Rose (fault_at (memory_state self.old).faults slot) (fault_at (memory_state self.new).faults slot) }
         ensures memory { IsErrOf result PutStop.Memory → Rose (memory_state self.old).shorts (memory_state self.new).shorts }
+        ensures counted { CountsPut result slot (memory_state self.old) (memory_state self.new) }
         ensures asked { (memory_state self.new).begins ≡ (memory_state self.old).begins ++ (slot, name.now) ∷ [] }
         ensures same { OnlySlot slot (memory_state self.old) (memory_state self.new) }
 
@@ -186,6 +188,7 @@ impl Desk for MemoryDesk {
         ensures part { IsErrOf result PutStop.Failed → TookPart piece.now (slot_at (memory_state self.old).slots slot) (slot_at (memory_state self.new).slots slot) }
         ensures memory { IsErrOf result PutStop.Memory → Rose (memory_state self.old).shorts (memory_state self.new).shorts }
         ensures kept { IsErrOf result PutStop.Memory → (memory_state self.new).slots ≡ (memory_state self.old).slots }
+        ensures counted { CountsPut result slot (memory_state self.old) (memory_state self.new) }
         ensures asked { (memory_state self.new).begins ≡ (memory_state self.old).begins }
         ensures same { OnlySlot slot (memory_state self.old) (memory_state self.new) }
 

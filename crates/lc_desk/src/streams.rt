@@ -1,9 +1,10 @@
 // Whole reads and writes over the single ones of std.
-ghost use Rattle.std.specs.Prelude.{◌≡◌, ◌≤◌, ◌<◌, ◌++◌, ◌+◌, ◌↔◌, ℕ, length, take, OnOk, OnErr, IsErrOf, IfOk, IfSome};
+ghost use Rattle.std.specs.Prelude.{◌≡◌, ◌≢◌, ◌≤◌, ◌<◌, ◌++◌, ◌+◌, ℕ, length, take, OnOk, OnErr, IsErrOf, IfOk, IfSome};
 ghost use Rattle.std.specs.Io.{ReadsAtMost, WritesAtMost};
 ghost use Rattle.std.specs.Io.KnownBytes.{Appends, Consumes, IsAtEnd, Keeps};
-ghost use Rattle.std.specs.IoError.{error_kind};
+ghost use Rattle.lc_desk.specs.System.{NoSignal};
 
+use crate::answers::{bytes_read, bytes_written};
 use crate::{PutStop, ReadStop};
 use std::io;
 use std::io::{ErrorKind, Read, Write};
@@ -17,6 +18,7 @@ fn read_some<F: Read>(file: &mut F, buffer: &mut [u8]) -> io::Result<usize>
     ensures consumed { IfOk result (λ n. Consumes (F.remaining file.old) (F.remaining file.new) (take n buffer.new)) }
     ensures end { IfOk result (λ n. n ≡ 0 → 0 < length buffer.old → IsAtEnd (F.remaining file.new)) }
     ensures kept { OnErr result (Keeps (F.remaining file.old) (F.remaining file.new)) }
+    ensures retried { NoSignal result }
 {
     for _ in 0..u64::MAX {
         match file.read(buffer) {
@@ -24,7 +26,7 @@ fn read_some<F: Read>(file: &mut F, buffer: &mut [u8]) -> io::Result<usize>
             answer => return answer,
         }
     }
-    Err(io::Error::from(ErrorKind::Interrupted))
+    Err(io::Error::from(ErrorKind::TimedOut))
 }
 
 // One write, tried again while a signal interrupts it.
@@ -32,6 +34,7 @@ fn write_some<W: Write>(to: &mut W, piece: &[u8]) -> io::Result<usize>
     ensures bound { WritesAtMost result piece.now }
     ensures appended { IfOk result (λ n. Appends (W.contents to.old) (W.contents to.new) (take n piece.now)) }
     ensures kept { OnErr result (Keeps (W.contents to.old) (W.contents to.new)) }
+    ensures retried { NoSignal result }
 {
     for _ in 0..u64::MAX {
         match to.write(piece) {
@@ -39,7 +42,7 @@ fn write_some<W: Write>(to: &mut W, piece: &[u8]) -> io::Result<usize>
             answer => return answer,
         }
     }
-    Err(io::Error::from(ErrorKind::Interrupted))
+    Err(io::Error::from(ErrorKind::TimedOut))
 }
 
 // Appends what is left of a file, if that is at most `limit` bytes with those that are there.
@@ -56,9 +59,7 @@ pub(crate) fn read_within<F: Read>(
 {
     let mut buffer = [0u8; CHUNK];
     loop {
-        let Ok(count) = read_some(file, &mut buffer) else {
-            return Err(ReadStop::Failed);
-        };
+        let count = bytes_read(read_some(file, &mut buffer))?;
         if count == 0 {
             return Ok(());
         }
@@ -71,27 +72,26 @@ pub(crate) fn read_within<F: Read>(
     }
 }
 
-// The stop that an error of std gives a begin or a put.
-pub(crate) fn put_stop(error: &io::Error) -> PutStop
-    ensures { (result ≡ PutStop.Memory) ↔ (error_kind error.now ≡ ErrorKind.OutOfMemory) }
+// One write for a put. A refused one took nothing.
+fn put_some<W: Write>(to: &mut W, piece: &[u8]) -> Result<usize, PutStop>
+    ensures bound { WritesAtMost result piece.now }
+    ensures some { IfOk result (λ n. 0 < n) }
+    ensures appended { IfOk result (λ n. Appends (W.contents to.old) (W.contents to.new) (take n piece.now)) }
+    ensures kept { OnErr result (Keeps (W.contents to.old) (W.contents to.new)) }
 {
-    match error.kind() {
-        ErrorKind::OutOfMemory => PutStop::Memory,
-        _ => PutStop::Failed,
-    }
+    bytes_written(write_some(to, piece))
 }
 
-// Writes all of a piece. A write that takes nothing is a fault.
+// Writes all of a piece.
 pub(crate) fn write_piece<W: Write>(to: &mut W, piece: &[u8]) -> Result<(), PutStop>
     ensures ok { OnOk result (Appends (W.contents to.old) (W.contents to.new) piece.now) }
     ensures part { OnErr result ((count : ℕ) × Appends (W.contents to.old) (W.contents to.new) (take count piece.now)) }
 {
     let mut rest = piece;
     while !rest.is_empty() {
-        match write_some(to, rest) {
-            Ok(0) => return Err(PutStop::Failed),
+        match put_some(to, rest) {
             Ok(count) => rest = &rest[count..],
-            Err(error) => return Err(put_stop(&error)),
+            Err(stop) => return Err(stop),
         }
     }
     Ok(())

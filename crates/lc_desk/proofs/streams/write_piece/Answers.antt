@@ -1,4 +1,4 @@
-use Rattle.std.proofs.Common.{◌≡◌, ℕ, ◌-◌, List, ◌++◌, rules, length, take, drop, sym, ap, ◌∙◌, subst, append_assoc, append-nil, take-append-drop}
+use Rattle.std.proofs.Common.{◌≡◌, ℕ, ◌-◌, List, ◌++◌, length, take, drop, sym, ap, ◌∙◌, subst, append_assoc, take-append-drop}
 use Rattle.std.proofs.lemmas.List.{take_rest}
 use Rattle.std.specs.Io.KnownBytes.{Appends}
 use Rattle.std.proofs.KnownBytes.{Appends-trans, Appends-kept}
@@ -20,14 +20,6 @@ loop-rest-preserved g c =
 -- a part that was written is the first bytes of the piece
 pub is_first : (piece done rest : List ℕ) → piece ≡ done ++ rest → done ≡ take (length done) piece
 is_first piece done rest split = sym (ap (take (length done)) split ∙ take-append_seam done rest)
-
-pub returns-in-Ok-eq0-clause-part : goal.returns-in-Ok-eq0-clause-part
-returns-in-Ok-eq0-clause-part g c =
-    let (done, split, appended) = c.loop-rest.invariant in
-    let rest = c.loop-rest.rest.now in
-    let none : c.in-Ok-eq0.field-0 ≡ 0 = search rules in
-    let all = Appends-trans _ _ _ done (take c.in-Ok-eq0.field-0 rest) appended c.in-Ok-eq0.ensures.appended in
-    (length done, subst (Appends _ _) (ap (λ n. done ++ take n rest) none ∙ append-nil done ∙ is_first _ done _ split) all)
 
 pub returns-in-Err-clause-part : goal.returns-in-Err-clause-part
 returns-in-Err-clause-part g c =

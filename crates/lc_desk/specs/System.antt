@@ -1,5 +1,5 @@
 -- What the answers of the system's calls tell a desk.
-use Rattle.std.specs.Prelude.{◌≡◌, ◌≢◌, ◌<◌, ◌≤◌, ◌↔◌, ◌==◌, ℕ, Result, Ok, Err, IfErr, IfOk, IsErrAnd, if◌then◌else◌}
+use Rattle.std.specs.Prelude.{◌≡◌, ◌≢◌, ◌<◌, ◌≤◌, ◌↔◌, ◌==◌, ℕ, Result, Ok, Err, IfErr, IsErrAnd, if◌then◌else◌}
 use Rattle.std.specs.IoError.{error_kind}
 use Rattle.std.specs.Fs.{file_type, metadata_len, IsFile}
 use Rattle.std.specs.declared.fs.Metadata.{Metadata}

@@ -76,7 +76,7 @@ fn create<R: Files>(runtime: &R, name: &str) -> io::Result<R::File> {
 
 // Gives a slot the file that was made, in place of the one that it had.
 fn place<F: Drop>(made: io::Result<F>, file: &mut Option<F>) -> Result<(), PutStop>
-    ensures placed { IfOk made (λ made. file.new ≡ Some made) }
+    ensures placed { IfOk made (λ new. file.new ≡ Some new) }
     ensures ok { IsOk made → IsOk result }
     ensures refused { IfErr made (λ error. IsErrAnd result (StopsPut error)) }
     ensures some { OnOk result (IsSome file.new) }
@@ -179,6 +179,7 @@ impl<'a, R: Files + Print, E: Print> Desk for HostDesk<'a, R, E> {
         // The files, of which a refusal leaves each as it was.
         ensures picture_made { OnOk result (slot ≡ Slot.Picture → IsSome self.new.picture) }
         ensures bounds_made { OnOk result (slot ≡ Slot.Bounds → IsSome self.new.bounds) }
+        ensures streams { slot ≢ Slot.Picture → slot ≢ Slot.Bounds → IsOk result }
         ensures files_kept { OnErr result ((self.new.picture ≡ self.old.picture) × (self.new.bounds ≡ self.old.bounds)) }
         ensures other_picture { slot ≢ Slot.Picture → self.new.picture ≡ self.old.picture }
         ensures other_bounds { slot ≢ Slot.Bounds → self.new.bounds ≡ self.old.bounds }

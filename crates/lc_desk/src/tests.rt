@@ -10,6 +10,9 @@ use std::process::Abort;
 use std::test::Fail;
 use std::{fs, io};
 
+mod made_up;
+mod system;
+
 #[test]
 fn reads_from_memory(rt: HostRuntime) -> Result<(), Fail> {
     let mut desk = MemoryDesk::new(rt.alloc());

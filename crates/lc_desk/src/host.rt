@@ -19,8 +19,9 @@ use std::{fs, io};
 /// The desk of the operating system, the program's only way to the outside. Picture and Bounds are files, Report is
 /// standard output and Note is standard error. It tells no contents.
 ///
-/// A file that is not found counts as absent. A call that a signal interrupts is tried again. Any other refusal of the
-/// system is a fault of the read or of the slot, as are a folder in place of a file, a full disk and a closed pipe.
+/// A file that is not found counts as absent. A call that a signal interrupts is tried again. Where the system has no
+/// memory for a begin or a put, that is want of memory. Any other refusal of the system is a fault of the read or of the
+/// slot, as are a folder in place of a file, a full disk and a closed pipe.
 #[derive(Drop)]
 pub struct HostDesk<'a, R: Files + Print, E: Print> {
     runtime: &'a R,

@@ -1,5 +1,5 @@
 -- The texts of a scene that is made from a number: a floor with boxes on it, under point lights, a panel and a sun.
-use Rattle.std.specs.Prelude.{ℕ, ◌+◌, ◌*◌, ◌%◌, ℤ, pos, ◌+ℤ◌, ◌-ℤ◌, List, ◌++◌, codes, decimal, flat_map}
+use Rattle.std.specs.Prelude.{ℕ, ◌+◌, ◌*◌, ◌%◌, ◌≤◌, ℤ, pos, ◌+ℤ◌, ◌-ℤ◌, List, ◌++◌, length, codes, decimal, flat_map}
 use Rattle.std.specs.Fmt.{signed_decimal}
 use Rattle.std.specs.List.{range_with_len}
 use Rattle.lc_make.specs.declared.made.Made.{Made}
@@ -11,6 +11,18 @@ boxes n = 1 + n % 40
 -- how many point lights there are
 abbrev pub points : ℕ → ℕ
 points n = 1000 + n % 4000
+
+-- how many lights there are in all: those, 512 samples of a panel and a sun
+abbrev pub light_count : ℕ → ℕ
+light_count n = points n + 513
+
+-- how many triangles there are: two of the floor, and two on each of the six sides of a box
+abbrev pub triangle_count : ℕ → ℕ
+triangle_count n = 2 + 12 * boxes n
+
+-- how many samples the picture has, one in each of its 32 by 24 pixels
+abbrev pub sample_count : ℕ
+sample_count = 768
 
 -- the numbers below a count, from 0
 abbrev pub below : ℕ → List ℕ
@@ -115,3 +127,10 @@ lights_bytes n = flat_map light_bytes (below (points n)) ++ panel_bytes ++ sun_b
 -- the texts of the scene of a number
 unfoldable pub made_of : ℕ → Made
 made_of n = record { job = job_bytes n; obj = obj_bytes n; mtl = mtl_bytes; lights = lights_bytes n }
+
+-- none of the texts has more than 256 KiB
+pub record AreShort (made : Made) : Type 0 where
+  pub job : length made.job ≤ 262_144
+  pub obj : length made.obj ≤ 262_144
+  pub mtl : length made.mtl ≤ 262_144
+  pub lights : length made.lights ≤ 262_144

@@ -2,10 +2,12 @@
 #![tactic(auto)]
 
 mod boxes;
+mod counts;
 mod lights;
 mod made;
 mod pieces;
 
+pub use counts::{light_count, sample_count, triangle_count};
 pub use made::{Made, make};
 
 #[cfg(test)]

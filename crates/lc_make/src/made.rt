@@ -1,6 +1,6 @@
 // Made scenes.
 ghost use Rattle.std.specs.Prelude.{◌≡◌, ◌≤◌, IfOk};
-ghost use Rattle.lc_make.specs.Made.{job_bytes, made_of, mtl_bytes};
+ghost use Rattle.lc_make.specs.Made.{AreShort, job_bytes, made_of, mtl_bytes};
 
 use crate::boxes::obj_text;
 use crate::lights::lights_text;
@@ -50,6 +50,9 @@ fn mtl_text(alloc: Global) -> Result<Text, Memory>
 pub fn make(alloc: Global, n: u32) -> Result<Made, Memory>
     requires { n ≤ 9999 }
     ensures value { IfOk result (λ made. made ≡ made_of n) }
+
+    // None of the texts has more than 256 KiB.
+    ensures short { IfOk result AreShort }
 {
     Ok(Made {
         job: job_text(alloc, n)?,

@@ -24,6 +24,11 @@ pub told_always : {A : Type 0} (held : Option Files) (f : Files → Course A) (P
 told_always None f P h = tt
 told_always (Some files) f P h = h files
 
+-- what is said of a course that needs no files is said where a desk tells its files
+pub less_told : {A : Type 0} (course : Course A) (held : Option Files) (P : Course A → Type 0) → P course → IfSome (told (λ files. course) held) P
+less_told course None P p = tt
+less_told course (Some files) P p = p
+
 -- ---- what is read
 
 -- nothing is read

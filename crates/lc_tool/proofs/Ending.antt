@@ -1,5 +1,5 @@
 -- Ends of a run, by its steps.
-use Rattle.std.proofs.Common.{◌≡◌, ℕ, ◌+◌, List, refl, sym, ◌∙◌, ap, subst, Option, Some, None, IfSome, IfOk, Ok, inr, [], ◌∷◌, append-nil, Contains, lit<}
+use Rattle.std.proofs.Common.{◌≡◌, ℕ, ◌+◌, List, refl, sym, ◌∙◌, ap, subst, Option, Some, IfOk, Ok, inr, [], ◌∷◌, append-nil, Contains, lit<}
 use Rattle.std.proofs.lemmas.List.Elements.{All-cons, All-nil}
 use Rattle.lc_desk.specs.Calls.{AreOn, Made, put, slot_of}
 use Rattle.lc_desk.specs.Causes.{Rose}
@@ -17,7 +17,7 @@ use Rattle.lc_tool.specs.Noted.{Noted}
 use Rattle.lc_tool.specs.Stopped.{Gave, Went}
 use Rattle.lc_tool.specs.Work.{Work}
 use Rattle.lc_tool.proofs.Keeps.{reads_none}
-use Rattle.lc_tool.proofs.Courses.{told_as, went_on, went_then, gave_once}
+use Rattle.lc_tool.proofs.Courses.{less_told, told_as, went_on, went_then, gave_once}
 use Rattle.lc_tool.proofs.Stopping.{stopped_then}
 
 -- ---- a course that is over
@@ -44,11 +44,6 @@ pub counts_now : (status : Status) (work : Work) (steps_before steps_now : ℕ) 
 counts_now status work steps_before steps_now h = h
 
 -- ---- a later step
-
--- what a desk does not tell is not said
-less_told : (course : Course Work) (held : Option Files) (P : Course Work → Type 0) → P course → IfSome (told (λ files. course) held) P
-less_told course None P p = tt
-less_told course (Some files) P p = p
 
 began_told : (slots : List Slot) (course : Course Work) (work : Work) (held : Option Files) (x y : DeskState) → Began slots (Some course) work x y → Began slots (told (λ files. course) held) work x y
 began_told slots course work held x y began = record { on = began.on; reads = began.reads; told = less_told course held (Gave work x y) began.told }

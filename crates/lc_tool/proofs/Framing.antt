@@ -7,29 +7,29 @@ use Rattle.lc_tool.specs.declared.world.World.{World}
 use Rattle.lc_tool.specs.Course.{at_once, goes_on, told}
 use Rattle.lc_tool.specs.Words.{Command}
 use Rattle.lc_tool.specs.Work.{Work}
-use Rattle.lc_tool.specs.Outcome.{course_of, frame_course, outcome_told, world_of}
+use Rattle.lc_tool.specs.Outcome.{course_of, frame_course, outcome, world_of}
 use Rattle.lc_tool.specs.Stopped.{Gave}
 use Rattle.lc_tool.specs.Rendered.{IsOf}
 use Rattle.lc_tool.proofs.Running.{some_here}
 use Rattle.lc_tool.proofs.Through.{went_through, if_ok, ok_same}
 
-module _ (command : List ℕ → Command) (work : World → Work) (goes : (name : List ℕ) (files : Files) → course_of (Some (command name)) files ≡ frame_course work name files) where
-  pub leaves_course : (words : List (List ℕ)) (held : Option Files) (world : World) (r : IsOf command words held world) → outcome_told words held ≡ Some (frame_course work r.name r.files)
+module _ (command : List ℕ → Command) (work : World → Work) (goes : (name : List ℕ) (held : Option Files) → course_of (Some (command name)) held ≡ told (frame_course work name) held) where
+  pub leaves_course : (words : List (List ℕ)) (held : Option Files) (world : World) (r : IsOf command words held world) → outcome words held ≡ Some (frame_course work r.name r.files)
   leaves_course words held world r =
-      ap (λ o. told (course_of o) held) r.command ∙ ap (told (course_of (Some (command r.name)))) r.told ∙ ap Some (goes r.name r.files)
+      ap (λ o. course_of o held) r.command ∙ ap (course_of (Some (command r.name))) r.told ∙ goes r.name (Some r.files)
 
   world_end : (name : List ℕ) (files : Files) (world : World) → (world_of name files).end ≡ Ok world → (frame_course work name files).end ≡ Ok (work world)
   world_end name files world e = ap (λ end. (goes_on (world_of name files).reads end (λ w. at_once (Ok (work w)))).end) e
 
   -- what is said of the outcome is said of the course to this work
-  pub leaves_work : (words : List (List ℕ)) (held : Option Files) (world : World) (P : Work → Type 0) → IsOf command words held world → IfSome (outcome_told words held) (λ c. IfOk c.end P) → P (work world)
+  pub leaves_work : (words : List (List ℕ)) (held : Option Files) (world : World) (P : Work → Type 0) → IsOf command words held world → IfSome (outcome words held) (λ c. IfOk c.end P) → P (work world)
   leaves_work words held world P r h =
       if_ok (frame_course work r.name r.files).end (work world) P (world_end r.name r.files world r.tells)
-      (some_here (outcome_told words held) (λ c. IfOk c.end P) (frame_course work r.name r.files) (leaves_course words held world r) h)
+      (some_here (outcome words held) (λ c. IfOk c.end P) (frame_course work r.name r.files) (leaves_course words held world r) h)
 
-  pub same_work : (words : List (List ℕ)) (before start : DeskState) (w : Work) (world : World) → IsOf command words before.held world → IfSome (outcome_told words before.held) (Gave w before start) → w ≡ work world
+  pub same_work : (words : List (List ℕ)) (before start : DeskState) (w : Work) (world : World) → IsOf command words before.held world → IfSome (outcome words before.held) (Gave w before start) → w ≡ work world
   same_work words before start w world r h =
-      let gave = some_here (outcome_told words before.held) (Gave w before start) (frame_course work r.name r.files) (leaves_course words before.held world r) h in
+      let gave = some_here (outcome words before.held) (Gave w before start) (frame_course work r.name r.files) (leaves_course words before.held world r) h in
       ok_same w (work world) (sym gave.end ∙ world_end r.name r.files world r.tells)
 
 -- where the course of such a command gives a work, the files tell a world

@@ -5,6 +5,7 @@ pub mod Noting
 pub mod Wordings
 pub mod Courses
 pub mod Stopping
+pub mod Parsing
 pub mod Libraries
 pub mod Ending
 pub mod Running
@@ -14,4 +15,6 @@ pub mod Worlds
 pub mod Framing
 pub mod PlainRuns
 pub mod Rendering
+pub mod Making
+pub mod Pictures
 pub mod Probing

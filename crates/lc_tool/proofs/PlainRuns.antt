@@ -18,7 +18,7 @@ use Rattle.lc_tool.specs.declared.world.World.{World}
 use Rattle.lc_tool.specs.Course.{Refusal, at_once, goes_on, told}
 use Rattle.lc_tool.specs.Words.{plain, command_of}
 use Rattle.lc_tool.specs.Work.{Work}
-use Rattle.lc_tool.specs.Outcome.{course_of, outcome_told, plain_course, plain_work, world_of}
+use Rattle.lc_tool.specs.Outcome.{course_of, outcome, plain_course, plain_work, world_of}
 use Rattle.lc_tool.specs.Status.{code}
 use Rattle.lc_tool.specs.Stopped.{Gave}
 use Rattle.lc_tool.specs.Ends.{Counts, Ends, Runs}
@@ -27,11 +27,11 @@ use Rattle.lc_frame.proofs.PlainFileLemmas.{picture_left as plain_left, picture_
 use Rattle.lc_tool.proofs.Framing.{part_between, same_work as framed_work, whole_part}
 use Rattle.lc_tool.proofs.Running.{AreOff, by_done, off_made, off_stopped}
 
-same_work : (words : List (List ℕ)) (before start : DeskState) (work : Work) (world : World) → IsPlainOf words before.held world → IfSome (outcome_told words before.held) (Gave work before start) → work ≡ plain_work world
-same_work words before start work world r h = framed_work plain plain_work (λ name files. refl) words before start work world r h
+same_work : (words : List (List ℕ)) (before start : DeskState) (work : Work) (world : World) → IsPlainOf words before.held world → IfSome (outcome words before.held) (Gave work before start) → work ≡ plain_work world
+same_work words before start work world r h = framed_work plain plain_work (λ name held. refl) words before start work world r h
 
-is_plain : (words : List (List ℕ)) (status : Status) (before now : DeskState) (world : World) → IsPlainOf words before.held world → Runs (command_of words) status (outcome_told words before.held) before now → Ends status picture_file (outcome_told words before.held) before now
-is_plain words status before now world r h = subst (λ o. Runs o status (outcome_told words before.held) before now) r.command h
+is_plain : (words : List (List ℕ)) (status : Status) (before now : DeskState) (world : World) → IsPlainOf words before.held world → Runs (command_of words) status (outcome words before.held) before now → Ends status picture_file (outcome words before.held) before now
+is_plain words status before now world r h = subst (λ o. Runs o status (outcome words before.held) before now) r.command h
 
 -- ---- where all is done
 
@@ -44,9 +44,9 @@ has_picture world before start now same made =
     ap (λ s. s.picture) (made.slots ∙ ap (after_calls (plain_calls world.job (plain_lights world.job world.scene))) same)
     ∙ plain_left world.job (plain_lights world.job world.scene) before.slots
 
-pub run_plain : (words : List (List ℕ)) (status : Status) (before now : DeskState) (world : World) → IsPlainOf words before.held world → Runs (command_of words) status (outcome_told words before.held) before now → code status ≡ 0 → HasPlainPicture world before now
+pub run_plain : (words : List (List ℕ)) (status : Status) (before now : DeskState) (world : World) → IsPlainOf words before.held world → Runs (command_of words) status (outcome words before.held) before now → code status ≡ 0 → HasPlainPicture world before now
 run_plain words status before now world r h zero =
-    let f = by_done (command_of words) status (outcome_told words before.held) before now h zero in
+    let f = by_done (command_of words) status (outcome words before.held) before now h zero in
     has_picture world before f.start now f.began.reads.slots (work_made world f.work f.start now (same_work words before f.start f.work world r f.began.told) f.made)
 
 -- ---- no light is evaluated to choose a cut
@@ -60,8 +60,8 @@ plain_counts : (status : Status) (name : List ℕ) (held : Option Files) (steps 
 plain_counts status name None steps = λ done. tt
 plain_counts status name (Some files) steps = λ done. no_evals (world_of name files).reads (world_of name files).end steps
 
-pub plain_counted : (words : List (List ℕ)) (held : Option Files) (status : Status) (name : List ℕ) (steps : ℕ) → command_of words ≡ Some (plain name) → Counts status (outcome_told words held) steps steps
-plain_counted words held status name steps e = subst (λ o. Counts status (told (course_of o) held) steps steps) (sym e) (plain_counts status name held steps)
+pub plain_counted : (words : List (List ℕ)) (held : Option Files) (status : Status) (name : List ℕ) (steps : ℕ) → command_of words ≡ Some (plain name) → Counts status (outcome words held) steps steps
+plain_counted words held status name steps e = subst (λ o. Counts status (course_of o held) steps steps) (sym e) (plain_counts status name held steps)
 
 -- ---- whatever the status
 
@@ -80,7 +80,7 @@ work_stopped : (stop : FrameStop) (world : World) (work : Work) (x y : DeskState
 unfolding plain_work
 work_stopped stop world work x y same h = subst (λ (w : Work). StoppedIn stop w.calls x y) same h
 
-ends_part : (words : List (List ℕ)) (status : Status) (before now : DeskState) (world : World) → IsPlainOf words before.held world → Ends status picture_file (outcome_told words before.held) before now → LeavesPlainPart world before now
+ends_part : (words : List (List ℕ)) (status : Status) (before now : DeskState) (world : World) → IsPlainOf words before.held world → Ends status picture_file (outcome words before.held) before now → LeavesPlainPart world before now
 ends_part words Done before now world r h =
     let made = work_made world h.work h.start now (same_work words before h.start h.work world r h.began.told) h.made in
     record {
@@ -104,5 +104,5 @@ ends_part words (Unwritten stop) before now world r h =
       report = ap (λ s. s.report) h.noted.slots ∙ off_stopped stop Report picture_file h.work.calls h.start h.mid off_report h.began.on h.broke ∙ ap (λ s. s.report) h.began.reads.slots;
     }
 
-pub run_plain_part : (words : List (List ℕ)) (status : Status) (before now : DeskState) (world : World) → IsPlainOf words before.held world → Runs (command_of words) status (outcome_told words before.held) before now → LeavesPlainPart world before now
+pub run_plain_part : (words : List (List ℕ)) (status : Status) (before now : DeskState) (world : World) → IsPlainOf words before.held world → Runs (command_of words) status (outcome words before.held) before now → LeavesPlainPart world before now
 run_plain_part words status before now world r h = ends_part words status before now world r (is_plain words status before now world r h)

@@ -5,14 +5,16 @@ use Rattle.std.proofs.lemmas.Bool.Decides.{nat_tests}
 use Rattle.lc_num.specs.Vectors.{Within}
 use Rattle.lc_num.specs.declared.vectors.Vec3.{Vec3}
 use Rattle.lc_scan.specs.Decimal.{decimal_of}
+use Rattle.lc_scan.specs.Whole.{whole_of}
 use Rattle.lc_scan.specs.declared.fault.NumFault.{NumFault}
-use Rattle.lc_tool.specs.Words.{Command, probe, render, plain, in_range, coordinate, vector_of, probe_of, word_at, vector_at, begins, command_of}
+use Rattle.lc_tool.specs.Words.{Command, probe, render, plain, make, make_of, in_range, coordinate, vector_of, probe_of, word_at, vector_at, begins, command_of}
 
 abbrev pub IsProper : Option Command → Type 0
 IsProper None = Unit {0}
 IsProper (Some (probe name place direction)) = Within 50_000_000 place × Within 50_000_000 direction
 IsProper (Some (render name)) = Unit {0}
 IsProper (Some (plain name)) = Unit {0}
+IsProper (Some (make number)) = Unit {0}
 
 abbrev Small : ℤ → Type 0
 Small z = unsigned_abs z ≤ 50_000_000
@@ -49,11 +51,17 @@ read_small words k =
     vector_small (coordinate (word_at words k)) (coordinate (word_at words (k + 1))) (coordinate (word_at words (k + 2)))
     (word_small (word_at words k)) (word_small (word_at words (k + 1))) (word_small (word_at words (k + 2)))
 
-frame_proper : (b c : Bool) (name : List ℕ) → IsProper (cond b (Some (render name)) (cond c (Some (plain name)) None))
-frame_proper b c name = chosen_proper b (Some (render name)) (cond c (Some (plain name)) None) tt (chosen_proper c (Some (plain name)) None tt tt)
+make_proper : (number : Result ℕ NumFault) → IsProper (make_of number)
+make_proper (Err fault) = tt
+make_proper (Ok n) = chosen_proper (nat_lt 9999 n) None (Some (make n)) tt tt
+
+frame_proper : (b c d : Bool) (name : List ℕ) (number : Result ℕ NumFault) → IsProper (cond b (Some (render name)) (cond c (Some (plain name)) (cond d (make_of number) None)))
+frame_proper b c d name number =
+    chosen_proper b (Some (render name)) (cond c (Some (plain name)) (cond d (make_of number) None)) tt
+    (chosen_proper c (Some (plain name)) (cond d (make_of number) None) tt (chosen_proper d (make_of number) None (make_proper number) tt))
 
 pub command_proper : (words : List (List ℕ)) → IsProper (command_of words)
 command_proper words =
     chosen_proper (begins words (codes "probe") 8) (probe_of (word_at words 1) (vector_at words 2) (vector_at words 5)) _
     (probe_proper (word_at words 1) (vector_at words 2) (vector_at words 5) (read_small words 2) (read_small words 5))
-    (frame_proper (begins words (codes "render") 2) (begins words (codes "plain") 2) (word_at words 1))
+    (frame_proper (begins words (codes "render") 2) (begins words (codes "plain") 2) (begins words (codes "make") 2) (word_at words 1) (whole_of (word_at words 1)))

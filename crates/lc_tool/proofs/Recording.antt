@@ -16,8 +16,8 @@ use Rattle.lc_cut.specs.Forest.{forest_of, trees_of}
 use Rattle.lc_cut.proofs.Building.{forest_of_is}
 use Rattle.lc_cut.proofs.Whole.{answer_near}
 use Rattle.lc_tool.specs.declared.status.Status.{Status}
-use Rattle.lc_tool.specs.Course.{at_once, told}
-use Rattle.lc_tool.specs.Words.{Command, probe, render, plain}
+use Rattle.lc_tool.specs.Course.{Course, at_once, told}
+use Rattle.lc_tool.specs.Words.{Command, probe, render, plain, make}
 use Rattle.lc_tool.specs.Work.{Work}
 use Rattle.lc_tool.specs.Outcome.{probe_scene, lights_of, probe_size, probe_permille, probe_spot, probe_answer, probe_work, probe_course, course_of}
 use Rattle.lc_tool.specs.Probed.{ProbeRecorded, Recorded}
@@ -25,7 +25,7 @@ use Rattle.lc_tool.specs.Status.{code}
 use Rattle.lc_tool.specs.Stopped.{Gave}
 use Rattle.lc_tool.specs.Ends.{Runs, Counts}
 use Rattle.lc_tool.proofs.Proper.{IsProper}
-use Rattle.lc_tool.proofs.Running.{by_done, is_done}
+use Rattle.lc_tool.proofs.Running.{by_done, is_done, some_told}
 use Rattle.lc_tool.proofs.Through.{went_through, ok_same, if_ok, told_files, lights_given}
 
 spot_valid : (place direction : Vec3) → Within 50_000_000 place → IsSpot (probe_spot place direction)
@@ -64,28 +64,32 @@ probe_recorded name place direction files before now steps_before steps_now work
       counted = counted ∙ ap (λ (w : Work). steps_before + w.evals) is;
     }
 
-done_recorded : (command : Option Command) (files : Files) (before now : DeskState) (steps_before steps_now : ℕ) (work : Work)
-    → IsProper command → (course_of command files).end ≡ Ok work → now.slots ≡ after_calls work.calls before.slots → IfOk (course_of command files).end (λ w. steps_now ≡ steps_before + w.evals)
-    → Recorded command files before now steps_before steps_now
-done_recorded None files before now steps_before steps_now work proper e slots counted = tt
-done_recorded (Some (probe name place direction)) files before now steps_before steps_now work proper e slots counted =
-    probe_recorded name place direction files before now steps_before steps_now work proper.0 e slots
-    (if_ok (probe_course name place direction files).end work (λ w. steps_now ≡ steps_before + w.evals) e counted)
-done_recorded (Some (render name)) files before now steps_before steps_now work proper e slots counted = tt
-done_recorded (Some (plain name)) files before now steps_before steps_now work proper e slots counted = tt
-
 some_both : {A : Type 0} (o : Option A) (P Q R : A → Type 0) → ((a : A) → P a → Q a → R a) → IfSome o P → IfSome o Q → IfSome o R
 some_both None P Q R f p q = tt
 some_both (Some a) P Q R f p q = f a p q
 
--- where a run is done, its record stands
-pub run_recorded : (command : Option Command) (status : Status) (before now : DeskState) (steps_before steps_now : ℕ) → IsProper command → Runs command status (told (course_of command) before.held) before now
-    → Counts status (told (course_of command) before.held) steps_before steps_now → code status ≡ 0
-    → IfSome before.held (λ files. Recorded command files before now steps_before steps_now)
-run_recorded command status before now steps_before steps_now proper runs counts zero =
-    let f = by_done command status (told (course_of command) before.held) before now runs zero in
+-- where a probe is done, its record stands
+done_recorded : (name : List ℕ) (place direction : Vec3) (status : Status) (before now : DeskState) (steps_before steps_now : ℕ) → Within 50_000_000 place
+    → Runs (Some (probe name place direction)) status (told (probe_course name place direction) before.held) before now
+    → Counts status (told (probe_course name place direction) before.held) steps_before steps_now → code status ≡ 0
+    → IfSome before.held (λ files. ProbeRecorded name place direction files before now steps_before steps_now)
+done_recorded name place direction status before now steps_before steps_now at runs counts zero =
+    let course : Files → Course Work = probe_course name place direction in
+    let f = by_done (Some (probe name place direction)) status (told course before.held) before now runs zero in
     let slots : now.slots ≡ after_calls f.work.calls before.slots = f.made.slots ∙ ap (after_calls f.work.calls) f.began.reads.slots in
-    some_both before.held (λ files. Gave f.work before f.start (course_of command files)) (λ files. IfOk (course_of command files).end (λ w. steps_now ≡ steps_before + w.evals)) _
-    (λ files gave counted. done_recorded command files before now steps_before steps_now f.work proper gave.end slots counted)
-    (told_files (course_of command) before.held (Gave f.work before f.start) f.began.told)
-    (told_files (course_of command) before.held (λ c. IfOk c.end (λ w. steps_now ≡ steps_before + w.evals)) (counts (is_done status zero)))
+    some_both before.held (λ files. Gave f.work before f.start (course files)) (λ files. IfOk (course files).end (λ w. steps_now ≡ steps_before + w.evals)) _
+    (λ files gave counted. probe_recorded name place direction files before now steps_before steps_now f.work at gave.end slots
+    (if_ok (course files).end f.work (λ w. steps_now ≡ steps_before + w.evals) gave.end counted))
+    (told_files course before.held (Gave f.work before f.start) f.began.told)
+    (told_files course before.held (λ c. IfOk c.end (λ w. steps_now ≡ steps_before + w.evals)) (counts (is_done status zero)))
+
+-- where a run is done, its record stands
+pub run_recorded : (command : Option Command) (status : Status) (before now : DeskState) (steps_before steps_now : ℕ) → IsProper command → Runs command status (course_of command before.held) before now
+    → Counts status (course_of command before.held) steps_before steps_now → code status ≡ 0
+    → IfSome before.held (λ files. Recorded command files before now steps_before steps_now)
+run_recorded None status before now steps_before steps_now proper runs counts zero = some_told before.held _ (λ files. tt)
+run_recorded (Some (probe name place direction)) status before now steps_before steps_now proper runs counts zero =
+    done_recorded name place direction status before now steps_before steps_now proper.0 runs counts zero
+run_recorded (Some (render name)) status before now steps_before steps_now proper runs counts zero = some_told before.held _ (λ files. tt)
+run_recorded (Some (plain name)) status before now steps_before steps_now proper runs counts zero = some_told before.held _ (λ files. tt)
+run_recorded (Some (make number)) status before now steps_before steps_now proper runs counts zero = some_told before.held _ (λ files. tt)

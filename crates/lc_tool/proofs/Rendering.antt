@@ -1,5 +1,5 @@
 -- What a render leaves.
-use Rattle.std.proofs.Common.{◌≡◌, ℕ, ◌+◌, ◌*◌, ◌≤◌, ◌⊎◌, List, [], ◌∷◌, ◌++◌, map, refl, sym, ◌∙◌, ap, subst, inl, inr, All, Option, Some, None, IfSome, Ok}
+use Rattle.std.proofs.Common.{◌≡◌, ℕ, ◌+◌, ◌*◌, ◌≤◌, ◌⊎◌, List, [], ◌∷◌, ◌++◌, map, refl, sym, ◌∙◌, ap, subst, inl, inr, All, Option, IfSome}
 use Rattle.std.proofs.lemmas.List.{map-append}
 use Rattle.std.proofs.lemmas.List.Elements.{All-nil, All-cons, All-map}
 use Rattle.lc_desk.specs.Calls.{Made, after_calls}
@@ -13,26 +13,26 @@ use Rattle.lc_view.specs.declared.ray.Ray.{Ray}
 use Rattle.lc_job.specs.declared.job.Job.{Job}
 use Rattle.lc_sample.specs.Sampled.{light_of, sample_of}
 use Rattle.lc_frame.specs.Files.{LeftPart, files as frame_files}
-use Rattle.lc_frame.specs.Frames.{answers_of, flat, picture_text, record_text, render_calls}
+use Rattle.lc_frame.specs.Frames.{answers_of, evals_of, flat, picture_text, record_text, render_calls}
 use Rattle.lc_frame.specs.Stops.{StoppedIn}
 use Rattle.lc_frame.specs.declared.stop.FrameStop.{FrameStop}
 use Rattle.lc_frame.specs.declared.stop.FrameStop.TheVariants as frame
 use Rattle.lc_tool.specs.declared.status.Status.{Status}
 use Rattle.lc_tool.specs.declared.status.Status.TheVariants.{Done, Usage, Stopped, Unwritten}
 use Rattle.lc_tool.specs.declared.world.World.{World}
-use Rattle.lc_tool.specs.Course.{told}
-use Rattle.lc_tool.specs.Words.{Command, probe, render, plain, command_of}
+use Rattle.lc_tool.specs.Course.{Course}
+use Rattle.lc_tool.specs.Words.{render, command_of}
 use Rattle.lc_tool.specs.Work.{Work}
-use Rattle.lc_tool.specs.Outcome.{course_of, outcome_told, plain_work, render_work}
+use Rattle.lc_tool.specs.Outcome.{outcome, render_work}
 use Rattle.lc_tool.specs.Status.{code}
+use Rattle.lc_tool.specs.Noted.{Noted}
 use Rattle.lc_tool.specs.Stopped.{Gave}
-use Rattle.lc_tool.specs.Ends.{Counts, Ends, Runs}
-use Rattle.lc_tool.specs.Rendered.{AreCounted, AreFractions, AreNear, HasPicture, HasRecord, IsRenderOf, LeavesParts, TellsWorld, recorded}
+use Rattle.lc_tool.specs.Ends.{Counts, Ends, Runs, write_line}
+use Rattle.lc_tool.specs.Rendered.{AreCounted, AreFractions, AreNear, HasPicture, HasRecord, IsRenderOf, LeavesParts, recorded}
 use Rattle.lc_sample.proofs.SampleLemmas.{sample_each, sample_evals, sample_fraction, sample_near}
 use Rattle.lc_frame.proofs.WrittenLemmas.{picture_left, picture_part, record_left, record_part}
-use Rattle.lc_tool.proofs.Running.{AreOff, by_done, is_done, off_made, off_stopped, some_as}
-use Rattle.lc_tool.proofs.Framing.{leaves_work, part_between, same_work as framed_work, tells_world, whole_part}
-use Rattle.lc_tool.proofs.Through.{told_files}
+use Rattle.lc_tool.proofs.Running.{AreOff, by_done, is_done, off_made, off_stopped}
+use Rattle.lc_tool.proofs.Framing.{leaves_work, part_between, same_work as framed_work, whole_part}
 use Rattle.lc_tool.proofs.Worlds.{IsWorld, world_is}
 
 -- ---- the samples of a world
@@ -62,93 +62,72 @@ each_recorded P world f =
 
 -- ---- the outcome where the words are a render and the files tell its world
 
-same_work : (words : List (List ℕ)) (before start : DeskState) (work : Work) (world : World) → IsRenderOf words before.held world → IfSome (outcome_told words before.held) (Gave work before start) → work ≡ render_work world
-same_work words before start work world r h = framed_work render render_work (λ name files. refl) words before start work world r h
+same_work : (words : List (List ℕ)) (before start : DeskState) (work : Work) (world : World) → IsRenderOf words before.held world → IfSome (outcome words before.held) (Gave work before start) → work ≡ render_work world
+same_work words before start work world r h = framed_work render render_work (λ name held. refl) words before start work world r h
 
-is_render : (words : List (List ℕ)) (status : Status) (before now : DeskState) (world : World) → IsRenderOf words before.held world → Runs (command_of words) status (outcome_told words before.held) before now → Ends status frame_files (outcome_told words before.held) before now
-is_render words status before now world r h = subst (λ o. Runs o status (outcome_told words before.held) before now) r.command h
+is_render : (words : List (List ℕ)) (status : Status) (before now : DeskState) (world : World) → IsRenderOf words before.held world → Runs (command_of words) status (outcome words before.held) before now → Ends status frame_files (outcome words before.held) before now
+is_render words status before now world r h = subst (λ o. Runs o status (outcome words before.held) before now) r.command h
 
 -- ---- where all is done
 
--- reads, and then all calls of the render
-record Rendered (world : World) (before now : DeskState) : Type 0 where
-  pub start : DeskState
-  pub reads : OnlyReads before start
-  pub made : Made (render_calls world.job (answers_of world.job world.scene)) start now
+-- the two files are as all calls of the render leave them
+pub record Rendered (world : World) (before now : DeskState) : Type 0 where
+  pub picture : now.slots.picture ≡ (after_calls (render_calls world.job (answers_of world.job world.scene)) before.slots).picture
+  pub bounds : now.slots.bounds ≡ (after_calls (render_calls world.job (answers_of world.job world.scene)) before.slots).bounds
 
 work_made : (world : World) (work : Work) (start now : DeskState) → work ≡ render_work world → Made work.calls start now → Made (render_calls world.job (answers_of world.job world.scene)) start now
 unfolding render_work
 work_made world work start now same made = subst (λ (w : Work). Made w.calls start now) same made
 
-run_rendered : (words : List (List ℕ)) (status : Status) (before now : DeskState) (world : World) → IsRenderOf words before.held world → Runs (command_of words) status (outcome_told words before.held) before now → code status ≡ 0 → Rendered world before now
-run_rendered words status before now world r h zero =
-    let f = by_done (command_of words) status (outcome_told words before.held) before now h zero in
-    record {
-      start = f.start;
-      reads = f.began.reads;
-      made = work_made world f.work f.start now (same_work words before f.start f.work world r f.began.told) f.made;
-    }
+pub rendered_picture : (world : World) (before now : DeskState) → Rendered world before now → HasPicture world before now
+rendered_picture world before now d = d.picture ∙ picture_left world.job (answers_of world.job world.scene) before.slots
 
-rendered_picture : (world : World) (before now : DeskState) → Rendered world before now → HasPicture world before now
-rendered_picture world before now d =
-    ap (λ s. s.picture) (d.made.slots ∙ ap (after_calls (render_calls world.job (answers_of world.job world.scene))) d.reads.slots)
-    ∙ picture_left world.job (answers_of world.job world.scene) before.slots
+pub rendered_record : (world : World) (before now : DeskState) → Rendered world before now → HasRecord world before now
+rendered_record world before now d = d.bounds ∙ record_left world.job (answers_of world.job world.scene) before.slots
 
-rendered_record : (world : World) (before now : DeskState) → Rendered world before now → HasRecord world before now
-rendered_record world before now d =
-    ap (λ s. s.bounds) (d.made.slots ∙ ap (after_calls (render_calls world.job (answers_of world.job world.scene))) d.reads.slots)
-    ∙ record_left world.job (answers_of world.job world.scene) before.slots
+render_made : (world : World) (before start now : DeskState) → OnlyReads before start → Made (render_calls world.job (answers_of world.job world.scene)) start now → Rendered world before now
+render_made world before start now reads made =
+    let slots : now.slots ≡ after_calls (render_calls world.job (answers_of world.job world.scene)) before.slots =
+    made.slots ∙ ap (after_calls (render_calls world.job (answers_of world.job world.scene))) reads.slots in
+    record { picture = ap (λ s. s.picture) slots; bounds = ap (λ s. s.bounds) slots }
 
-pub run_picture : (words : List (List ℕ)) (status : Status) (before now : DeskState) (world : World) → IsRenderOf words before.held world → Runs (command_of words) status (outcome_told words before.held) before now → code status ≡ 0 → HasPicture world before now
-run_picture words status before now world r h zero = rendered_picture world before now (run_rendered words status before now world r h zero)
-
-pub run_record : (words : List (List ℕ)) (status : Status) (before now : DeskState) (world : World) → IsRenderOf words before.held world → Runs (command_of words) status (outcome_told words before.held) before now → code status ≡ 0 → HasRecord world before now
-run_record words status before now world r h zero = rendered_record world before now (run_rendered words status before now world r h zero)
+pub render_done : (words : List (List ℕ)) (status : Status) (before now : DeskState) (world : World) → IsRenderOf words before.held world → Runs (command_of words) status (outcome words before.held) before now → code status ≡ 0 → Rendered world before now
+render_done words status before now world r h zero =
+    let f = by_done (command_of words) status (outcome words before.held) before now h zero in
+    render_made world before f.start now f.began.reads (work_made world f.work f.start now (same_work words before f.start f.work world r f.began.told) f.made)
 
 -- ---- the samples of a valid world
 
-render_is : (words : List (List ℕ)) (held : Option Files) (world : World) → IsRenderOf words held world → IsWorld world
+pub render_is : (words : List (List ℕ)) (held : Option Files) (world : World) → IsRenderOf words held world → IsWorld world
 render_is words held world r = world_is r.name r.files world r.tells
 
-pub render_near : (words : List (List ℕ)) (held : Option Files) (world : World) → IsRenderOf words held world → AreNear world
-render_near words held world r =
-    let valid = render_is words held world r in
-    each_of (λ ray. IsNear (light_of world.scene ray) (sample_in world ray)) (λ ray. sample_near world.job.cut world.job.permille world.scene ray valid.scene) (rays_of world)
+pub world_near : (world : World) → IsWorld world → AreNear world
+world_near world valid = each_of (λ ray. IsNear (light_of world.scene ray) (sample_in world ray)) (λ ray. sample_near world.job.cut world.job.permille world.scene ray valid.scene) (rays_of world)
 
-pub render_fractions : (words : List (List ℕ)) (held : Option Files) (world : World) → IsRenderOf words held world → AreFractions world
-render_fractions words held world r =
-    let valid = render_is words held world r in
+pub world_fractions : (world : World) → IsWorld world → AreFractions world
+world_fractions world valid =
     each_recorded (λ a. (a.size ≡ world.job.cut) ⊎ IsFraction world.job.permille a) world (λ ray. sample_fraction world.job.cut world.job.permille world.scene ray valid.job.cut_some)
 
-work_counted : (world : World) (steps_before steps_now : ℕ) → steps_now ≡ steps_before + (render_work world).evals → All (λ a. a.evals ≤ 2 * world.job.cut) (recorded world) → All (λ a. a.evals ≡ a.size) (recorded world) → AreCounted world steps_before steps_now
+pub world_counted : (world : World) (steps_before steps_now : ℕ) → IsWorld world → steps_now ≡ steps_before + evals_of (recorded world) → AreCounted world steps_before steps_now
+world_counted world steps_before steps_now valid all = record {
+  each = each_recorded (λ a. a.evals ≤ 2 * world.job.cut) world (λ ray. sample_evals world.job.cut world.job.permille world.scene ray valid.job.cut_some);
+  one = each_recorded (λ a. a.evals ≡ a.size) world (λ ray. sample_each world.job.cut world.job.permille world.scene ray);
+  all = all;
+}
+
+render_evals : (world : World) (steps_before steps_now : ℕ) → steps_now ≡ steps_before + (render_work world).evals → steps_now ≡ steps_before + evals_of (recorded world)
 unfolding render_work
-work_counted world steps_before steps_now all each one = record { each = each; one = one; all = all }
+render_evals world steps_before steps_now e = e
 
-pub run_counted : (words : List (List ℕ)) (status : Status) (held : Option Files) (world : World) (steps_before steps_now : ℕ) → IsRenderOf words held world → Counts status (outcome_told words held) steps_before steps_now → code status ≡ 0 → AreCounted world steps_before steps_now
-run_counted words status held world steps_before steps_now r counts zero =
-    let valid = render_is words held world r in
-    work_counted world steps_before steps_now
-    (leaves_work render render_work (λ name files. refl) words held world (λ w. steps_now ≡ steps_before + w.evals) r (counts (is_done status zero)))
-    (each_recorded (λ a. a.evals ≤ 2 * world.job.cut) world (λ ray. sample_evals world.job.cut world.job.permille world.scene ray valid.job.cut_some))
-    (each_recorded (λ a. a.evals ≡ a.size) world (λ ray. sample_each world.job.cut world.job.permille world.scene ray))
-
--- ---- the files tell a world
-
-tells : (command : Option Command) (files : Files) (work : Work) → (course_of command files).end ≡ Ok work → TellsWorld command files
-tells None files work e = tt
-tells (Some (probe name place direction)) files work e = tt
-tells (Some (render name)) files work e = tells_world render_work name files work e
-tells (Some (plain name)) files work e = tells_world plain_work name files work e
-
-pub run_world : (command : Option Command) (status : Status) (before now : DeskState) → Runs command status (told (course_of command) before.held) before now → code status ≡ 0 → IfSome before.held (TellsWorld command)
-run_world command status before now h zero =
-    let f = by_done command status (told (course_of command) before.held) before now h zero in
-    some_as before.held (λ files. Gave f.work before f.start (course_of command files)) (TellsWorld command) (λ files gave. tells command files f.work gave.end)
-    (told_files (course_of command) before.held (Gave f.work before f.start) f.began.told)
+pub render_counted : (words : List (List ℕ)) (status : Status) (held : Option Files) (world : World) (steps_before steps_now : ℕ) → IsRenderOf words held world → Counts status (outcome words held) steps_before steps_now → code status ≡ 0 → AreCounted world steps_before steps_now
+render_counted words status held world steps_before steps_now r counts zero =
+    world_counted world steps_before steps_now (render_is words held world r)
+    (render_evals world steps_before steps_now
+    (leaves_work render render_work (λ name held. refl) words held world (λ w. steps_now ≡ steps_before + w.evals) r (counts (is_done status zero))))
 
 -- ---- whatever the status
 
-off_report : AreOff Report frame_files
+pub off_report : AreOff Report frame_files
 off_report =
     All-cons (λ s. s ≡ Report → ⊥) Picture (Bounds ∷ []) (λ e. cc)
     (All-cons (λ s. s ≡ Report → ⊥) Bounds [] (λ e. cc) (All-nil (λ s. s ≡ Report → ⊥)))
@@ -163,39 +142,51 @@ record_stopped (frame.Write slot) job rows x y h = record_part job rows put_stop
 record_stopped frame.Memory job rows x y (inl same) = inl (ap (λ d. d.slots.bounds) same)
 record_stopped frame.Memory job rows x y (inr broke) = record_part job rows put_stop.Memory x y broke
 
+-- the files where all calls were made
+pub whole_parts : (world : World) (before now : DeskState) → Rendered world before now → LeavesParts world before now
+whole_parts world before now d = record {
+  picture = whole_part world.job.picture (picture_text world.job (answers_of world.job world.scene)) before.slots.picture now.slots.picture (rendered_picture world before now d);
+  bounds = whole_part world.job.bounds (record_text world.job (answers_of world.job world.scene)) before.slots.bounds now.slots.bounds (rendered_record world before now d);
+}
+
+-- the files where nothing was written but a line on Note
+pub no_parts : (world : World) (before now : DeskState) (line : List ℕ) → Noted line before now → LeavesParts world before now
+no_parts world before now line noted = record { picture = inl (ap (λ s. s.picture) noted.slots); bounds = inl (ap (λ s. s.bounds) noted.slots) }
+
+-- the files where a call of the render was refused
+pub broken_parts : (world : World) (stop : FrameStop) (before start mid now : DeskState) (line : List ℕ) → OnlyReads before start → StoppedIn stop (render_calls world.job (answers_of world.job world.scene)) start mid → Noted line mid now → LeavesParts world before now
+broken_parts world stop before start mid now line reads broke noted =
+    let rows : List (List (List Answer)) = answers_of world.job world.scene in
+    record {
+      picture = part_between world.job.picture (picture_text world.job rows) before.slots.picture start.slots.picture mid.slots.picture now.slots.picture
+          (ap (λ s. s.picture) reads.slots) (ap (λ s. s.picture) noted.slots) (picture_stopped stop world.job rows start mid broke);
+      bounds = part_between world.job.bounds (record_text world.job rows) before.slots.bounds start.slots.bounds mid.slots.bounds now.slots.bounds
+          (ap (λ s. s.bounds) reads.slots) (ap (λ s. s.bounds) noted.slots) (record_stopped stop world.job rows start mid broke);
+    }
+
 work_stopped : (stop : FrameStop) (world : World) (work : Work) (x y : DeskState) → work ≡ render_work world → StoppedIn stop work.calls x y → StoppedIn stop (render_calls world.job (answers_of world.job world.scene)) x y
 unfolding render_work
 work_stopped stop world work x y same h = subst (λ (w : Work). StoppedIn stop w.calls x y) same h
 
-ends_parts : (words : List (List ℕ)) (status : Status) (before now : DeskState) (world : World) → IsRenderOf words before.held world → Ends status frame_files (outcome_told words before.held) before now → LeavesParts world before now
+ends_parts : (words : List (List ℕ)) (status : Status) (before now : DeskState) (world : World) → IsRenderOf words before.held world → Ends status frame_files (outcome words before.held) before now → LeavesParts world before now
 ends_parts words Done before now world r h =
-    let d : Rendered world before now = record {
-      start = h.start;
-      reads = h.began.reads;
-      made = work_made world h.work h.start now (same_work words before h.start h.work world r h.began.told) h.made;
-    } in
-    record {
-      picture = whole_part world.job.picture (picture_text world.job (answers_of world.job world.scene)) before.slots.picture now.slots.picture (rendered_picture world before now d);
-      bounds = whole_part world.job.bounds (record_text world.job (answers_of world.job world.scene)) before.slots.bounds now.slots.bounds (rendered_record world before now d);
-      report = off_made Report frame_files h.work.calls h.start now off_report h.began.on h.made ∙ ap (λ s. s.report) h.began.reads.slots;
-    }
+    whole_parts world before now (render_made world before h.start now h.began.reads (work_made world h.work h.start now (same_work words before h.start h.work world r h.began.told) h.made))
 ends_parts words Usage before now world r h = absurd h
-ends_parts words (Stopped stop) before now world r h = record {
-  picture = inl (ap (λ s. s.picture) h.noted.slots);
-  bounds = inl (ap (λ s. s.bounds) h.noted.slots);
-  report = ap (λ s. s.report) h.noted.slots;
-}
+ends_parts words (Stopped stop) before now world r h = no_parts world before now h.line h.noted
 ends_parts words (Unwritten stop) before now world r h =
-    let rows : List (List (List Answer)) = answers_of world.job world.scene in
-    let broke : StoppedIn stop (render_calls world.job rows) h.start h.mid = work_stopped stop world h.work h.start h.mid (same_work words before h.start h.work world r h.began.told) h.broke in
-    record {
-      picture = part_between world.job.picture (picture_text world.job rows) before.slots.picture h.start.slots.picture h.mid.slots.picture now.slots.picture
-          (ap (λ s. s.picture) h.began.reads.slots) (ap (λ s. s.picture) h.noted.slots) (picture_stopped stop world.job rows h.start h.mid broke);
-      bounds = part_between world.job.bounds (record_text world.job rows) before.slots.bounds h.start.slots.bounds h.mid.slots.bounds now.slots.bounds
-          (ap (λ s. s.bounds) h.began.reads.slots) (ap (λ s. s.bounds) h.noted.slots) (record_stopped stop world.job rows h.start h.mid broke);
-      report = ap (λ s. s.report) h.noted.slots ∙ off_stopped stop Report frame_files h.work.calls h.start h.mid off_report h.began.on h.broke
-          ∙ ap (λ s. s.report) h.began.reads.slots;
-    }
+    broken_parts world stop before h.start h.mid now (write_line stop) h.began.reads
+    (work_stopped stop world h.work h.start h.mid (same_work words before h.start h.work world r h.began.told) h.broke) h.noted
 
-pub run_parts : (words : List (List ℕ)) (status : Status) (before now : DeskState) (world : World) → IsRenderOf words before.held world → Runs (command_of words) status (outcome_told words before.held) before now → LeavesParts world before now
-run_parts words status before now world r h = ends_parts words status before now world r (is_render words status before now world r h)
+pub render_parts : (words : List (List ℕ)) (status : Status) (before now : DeskState) (world : World) → IsRenderOf words before.held world → Runs (command_of words) status (outcome words before.held) before now → LeavesParts world before now
+render_parts words status before now world r h = ends_parts words status before now world r (is_render words status before now world r h)
+
+-- Report is as it was
+ends_report : (status : Status) (course : Option (Course Work)) (before now : DeskState) → Ends status frame_files course before now → now.slots.report ≡ before.slots.report
+ends_report Done course before now h = off_made Report frame_files h.work.calls h.start now off_report h.began.on h.made ∙ ap (λ s. s.report) h.began.reads.slots
+ends_report Usage course before now h = absurd h
+ends_report (Stopped stop) course before now h = ap (λ s. s.report) h.noted.slots
+ends_report (Unwritten stop) course before now h =
+    ap (λ s. s.report) h.noted.slots ∙ off_stopped stop Report frame_files h.work.calls h.start h.mid off_report h.began.on h.broke ∙ ap (λ s. s.report) h.began.reads.slots
+
+pub run_report : (words : List (List ℕ)) (status : Status) (before now : DeskState) (world : World) → IsRenderOf words before.held world → Runs (command_of words) status (outcome words before.held) before now → now.slots.report ≡ before.slots.report
+run_report words status before now world r h = ends_report status (outcome words before.held) before now (is_render words status before now world r h)

@@ -20,8 +20,8 @@ use Rattle.lc_tool.specs.declared.status.Stop.{Stop}
 use Rattle.lc_tool.specs.declared.status.Stop.TheVariants.{Memory, Faulty, Absent, ReadFault, Long}
 use Rattle.lc_tool.specs.declared.status.Status.{Status}
 use Rattle.lc_tool.specs.declared.status.Status.TheVariants.{Done, Usage, Stopped, Unwritten}
-use Rattle.lc_tool.specs.Course.{Course, told}
-use Rattle.lc_tool.specs.Words.{Command, probe, render, plain}
+use Rattle.lc_tool.specs.Course.{Course}
+use Rattle.lc_tool.specs.Words.{Command, probe, render, plain, make}
 use Rattle.lc_tool.specs.Work.{Work, calls_of}
 use Rattle.lc_tool.specs.Lines.{usage_line}
 use Rattle.lc_tool.specs.Outcome.{course_of, slots_of, status_of}
@@ -140,6 +140,9 @@ off_note (Some (render name)) =
     All-cons (λ s. s ≡ Note → ⊥) Picture (Bounds ∷ []) (λ e. cc)
     (All-cons (λ s. s ≡ Note → ⊥) Bounds [] (λ e. cc) (All-nil (λ s. s ≡ Note → ⊥)))
 off_note (Some (plain name)) = All-cons (λ s. s ≡ Note → ⊥) Picture [] (λ e. cc) (All-nil (λ s. s ≡ Note → ⊥))
+off_note (Some (make number)) =
+    All-cons (λ s. s ≡ Note → ⊥) Picture (Bounds ∷ Report ∷ []) (λ e. cc)
+    (All-cons (λ s. s ≡ Note → ⊥) Bounds (Report ∷ []) (λ e. cc) (All-cons (λ s. s ≡ Note → ⊥) Report [] (λ e. cc) (All-nil (λ s. s ≡ Note → ⊥))))
 
 calls_off : (slot : Slot) (slots : List Slot) (calls : List Call) → AreOff slot slots → AreOn slots calls → All (IsOff slot) calls
 calls_off slot slots calls off on =
@@ -285,16 +288,18 @@ run_unwritten (Some command) (Unwritten (frame.Write slot)) course before now h 
 
 -- ---- with no fault counted, the status is that of the outcome, or there was no memory
 
-usage_end : (held : Option Files) (c : Course Work) → told (course_of None) held ≡ Some c → 2 ≡ status_of c.end
-usage_end None c e = cc
-usage_end (Some files) c e = let same : course_of None files ≡ c = cc in ap (λ (x : Course Work). status_of x.end) same
+some_same : {A : Type 0} (a b : A) → ◌≡◌ {A = Option A} (Some a) (Some b) → a ≡ b
+some_same a b e = cc
+
+usage_end : (held : Option Files) (c : Course Work) → course_of None held ≡ Some c → 2 ≡ status_of c.end
+usage_end held c e = ap (λ (x : Course Work). status_of x.end) (some_same _ c e)
 
 refused_called : (why : PutStop) (calls : List Call) (x y : DeskState) (b : BrokeOff why calls x y) → Contains (map slot_of calls) (slot_of b.refused)
 refused_called why calls x y b =
     subst (λ l. Contains l (slot_of b.refused)) (sym (ap (map slot_of) b.split ∙ map-append slot_of b.done (b.refused ∷ b.rest)))
     (Contains-append_right (map slot_of b.done) (slot_of b.refused ∷ map slot_of b.rest) (slot_of b.refused) (0, omega arith, refl))
 
-pub run_complete : (command : Option Command) (status : Status) (held : Option Files) (before now : DeskState) → Runs command status (told (course_of command) held) before now → (c : Course Work) → told (course_of command) held ≡ Some c → IsFaultless c before now → (code status ≡ status_of c.end) ⊎ (code status ≡ 1)
+pub run_complete : (command : Option Command) (status : Status) (held : Option Files) (before now : DeskState) → Runs command status (course_of command held) before now → (c : Course Work) → course_of command held ≡ Some c → IsFaultless c before now → (code status ≡ status_of c.end) ⊎ (code status ≡ 1)
 run_complete None status held before now h c e faultless = inl (ap code h.usage ∙ usage_end held c e)
 run_complete (Some command) Done held before now h c e faultless =
     inl (sym (ap status_of (some_here _ (Gave h.work before h.start) c e h.began.told).end))

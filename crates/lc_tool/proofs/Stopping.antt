@@ -27,7 +27,7 @@ noted_later line before mid now reads noted = record {
   said = said_since line before mid now (ap (λ s. s.note) reads.slots) reads.later noted.said;
 }
 
-cause_since : (stop : Stop) (before mid now : DeskState) → Later before mid → HasCause stop mid now → HasCause stop before now
+pub cause_since : (stop : Stop) (before mid now : DeskState) → Later before mid → HasCause stop mid now → HasCause stop before now
 cause_since Memory before mid now later h = h
 cause_since (Faulty text) before mid now later h = h
 cause_since Absent before mid now later h = Rose-since _ _ _ later.absents h

@@ -6,9 +6,9 @@ use Rattle.lc_light.specs.LightFile.{fault_in, lights}
 use Rattle.lc_light.specs.declared.lights.Lights.{Lights}
 use Rattle.lc_tool.specs.declared.status.Source.{Source}
 use Rattle.lc_tool.specs.declared.status.Source.TheVariants as source
-use Rattle.lc_tool.specs.Course.{Course, Refusal, goes_on, and_then, at_once, told}
+use Rattle.lc_tool.specs.Course.{Course, Refusal, goes_on, and_then, told}
 use Rattle.lc_tool.specs.Lines.{file_limit}
-use Rattle.lc_tool.specs.Outcome.{within, text_of, unless_faulty, lights_of}
+use Rattle.lc_tool.specs.Outcome.{within, text_of, unless_faulty, lights_of, lights_text}
 
 -- the first step gave a value, and the rest went well from there
 pub record Through {A B : Type 0} (step : Course A) (next : A → Course B) (b : B) : Type 0 where
@@ -54,6 +54,6 @@ pub record LightsGiven (name : List ℕ) (seed : ℕ) (files : Files) (given : L
 
 pub lights_given : (name : List ℕ) (seed : ℕ) (files : Files) (given : Lights) → (lights_of name seed files).end ≡ Ok given → LightsGiven name seed files given
 lights_given name seed files given e =
-    let w = went_through (text_of file_limit name files) (λ text. at_once (unless_faulty source.Lights name (fault_in text) (lights text seed))) given e in
+    let w = went_through (text_of file_limit name files) (λ text. lights_text name seed text) given e in
     let v = unless_gave source.Lights name (fault_in w.value) (lights w.value seed) given w.went in
     record { text = w.value; read = within_gave file_limit name (files name) w.value w.stepped; right = v.0; same = v.1 }

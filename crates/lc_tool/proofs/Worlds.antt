@@ -1,5 +1,5 @@
--- The world that the files of a job tell is within its ranges.
-use Rattle.std.proofs.Common.{◌≡◌, ℕ, List, [], ◌∷◌, length, map, refl, subst, Option, Some, None, Ok, arith}
+-- The world that files or made texts tell is within its ranges.
+use Rattle.std.proofs.Common.{◌≡◌, codes, ℕ, List, [], ◌∷◌, length, map, refl, subst, Option, Some, None, Ok, arith}
 use Rattle.std.proofs.lemmas.List.Elements.{All-nil}
 use Rattle.lc_num.specs.Faults.{Fault}
 use Rattle.lc_desk.specs.Desk.{Files}
@@ -11,6 +11,7 @@ use Rattle.lc_mtl.specs.MtlFile as mtl
 use Rattle.lc_mtl.specs.Materials.{AreMaterials, IsMaterial}
 use Rattle.lc_mtl.specs.declared.material.Material.{Material}
 use Rattle.lc_mtl.proofs.ValidMaterials.{materials_valid}
+use Rattle.lc_light.specs.LightFile as light
 use Rattle.lc_light.specs.Lights.{AreLights}
 use Rattle.lc_light.specs.declared.lights.Lights.{Lights}
 use Rattle.lc_light.proofs.ValidLights.{lights_valid}
@@ -29,7 +30,8 @@ use Rattle.lc_tool.specs.declared.status.Source.TheVariants as source
 use Rattle.lc_tool.specs.declared.world.World.{World}
 use Rattle.lc_tool.specs.Course.{at_once}
 use Rattle.lc_tool.specs.Lines.{file_limit}
-use Rattle.lc_tool.specs.Outcome.{beside, built, furnished, job_of, libraries_of, library_of, lights_of, lit, mesh_of, text_of, unless_faulty, unless_stopped, world_by, world_of}
+use Rattle.lc_make.specs.declared.made.Made.{Made}
+use Rattle.lc_tool.specs.Outcome.{beside, built, furnished, job_of, job_text, libraries_of, library_of, library_text, lights_of, lights_text, lit, made_built, made_furnished, made_lit, made_world, mesh_of, mesh_text, text_of, unless_stopped, world_by, world_of}
 use Rattle.lc_tool.proofs.Through.{went_through, ok_same, unless_gave, lights_given}
 
 -- ---- the job
@@ -50,24 +52,35 @@ no_fault name text job given e = go (fault_in text) refl where
   go None same = same
   go (Some fault) same = absurd (refused fault.line fault.kind (line_first text (job_stop.Fault fault.line fault.kind) same).0)
 
+job_text_is : (name text : List ℕ) (job : Job) → (job_text name text).end ≡ Ok job → IsJob job
+job_text_is name text job e = subst IsJob (unless_job name (first_stop text) (job_in text) job e) (job_valid text (no_fault name text (job_in text) job e))
+
 job_is : (name : List ℕ) (files : Files) (job : Job) → (job_of name files).end ≡ Ok job → IsJob job
 job_is name files job e =
-    let w = went_through (text_of file_limit name files) (λ text. at_once (unless_stopped name (first_stop text) (job_in text))) job e in
-    subst IsJob (unless_job name (first_stop w.value) (job_in w.value) job w.went) (job_valid w.value (no_fault name w.value (job_in w.value) job w.went))
+    let w = went_through (text_of file_limit name files) (λ text. job_text name text) job e in
+    job_text_is name w.value job w.went
 
 -- ---- the scene
 
+mesh_text_is : (name text : List ℕ) (mesh : Mesh) → (mesh_text name text).end ≡ Ok mesh → IsMesh mesh
+mesh_text_is name text mesh e =
+    let v = unless_gave source.Scene name (obj.fault_in text) (obj.mesh text) mesh e in
+    subst IsMesh v.1 (mesh_valid text v.0)
+
 mesh_is : (name : List ℕ) (files : Files) (mesh : Mesh) → (mesh_of name files).end ≡ Ok mesh → IsMesh mesh
 mesh_is name files mesh e =
-    let w = went_through (text_of file_limit name files) (λ text. at_once (unless_faulty source.Scene name (obj.fault_in text) (obj.mesh text))) mesh e in
-    let v = unless_gave source.Scene name (obj.fault_in w.value) (obj.mesh w.value) mesh w.went in
-    subst IsMesh v.1 (mesh_valid w.value v.0)
+    let w = went_through (text_of file_limit name files) (λ text. mesh_text name text) mesh e in
+    mesh_text_is name w.value mesh w.went
+
+library_text_is : (before : List Material) (name text : List ℕ) (items : List Material) → AreMaterials before → (library_text before name text).end ≡ Ok items → AreMaterials items
+library_text_is before name text items valid e =
+    let v = unless_gave source.Library name (mtl.fault_in (length before) text) (mtl.materials before text) items e in
+    subst AreMaterials v.1 (materials_valid before text valid v.0)
 
 library_is : (before : List Material) (name : List ℕ) (files : Files) (items : List Material) → AreMaterials before → (library_of before name files).end ≡ Ok items → AreMaterials items
 library_is before name files items valid e =
-    let w = went_through (text_of file_limit name files) (λ text. at_once (unless_faulty source.Library name (mtl.fault_in (length before) text) (mtl.materials before text))) items e in
-    let v = unless_gave source.Library name (mtl.fault_in (length before) w.value) (mtl.materials before w.value) items w.went in
-    subst AreMaterials v.1 (materials_valid before w.value valid v.0)
+    let w = went_through (text_of file_limit name files) (λ text. library_text before name text) items e in
+    library_text_is before name w.value items valid w.went
 
 libraries_are : (names : List (List ℕ)) (before : List Material) (files : Files) (items : List Material) → AreMaterials before → (libraries_of names before files).end ≡ Ok items → AreMaterials items
 unfolding libraries_of
@@ -75,6 +88,11 @@ libraries_are [] before files items valid e = subst AreMaterials (ok_same before
 libraries_are (name ∷ later) before files items valid e =
     let w = went_through (library_of before name files) (λ more. libraries_of later more files) items e in
     libraries_are later w.value files items (library_is before name files w.value valid w.stepped) w.went
+
+lights_text_are : (name : List ℕ) (seed : ℕ) (text : List ℕ) (lights : Lights) → (lights_text name seed text).end ≡ Ok lights → AreLights lights
+lights_text_are name seed text lights e =
+    let v = unless_gave source.Lights name (light.fault_in text) (light.lights text seed) lights e in
+    subst AreLights v.1 (lights_valid text seed v.0)
 
 lights_are : (name : List ℕ) (seed : ℕ) (files : Files) (lights : Lights) → (lights_of name seed files).end ≡ Ok lights → AreLights lights
 lights_are name seed files lights e =
@@ -96,11 +114,13 @@ pub record IsWorld (world : World) : Type 0 where
   pub job : IsJob world.job
   pub scene : IsScene world.scene
 
+lit_valid : (job : Job) (mesh : Mesh) (items : List Material) (lights : Lights) (world : World) → IsJob job → IsMesh mesh → AreMaterials items → AreLights lights → world_by job mesh items lights ≡ world → IsWorld world
+lit_valid job mesh items lights world hj hm hi hl e = subst IsWorld e (record { job = hj; scene = scene_of_is mesh items lights job.seed hm hi hl })
+
 lit_is : (job : Job) (mesh : Mesh) (items : List Material) (files : Files) (world : World) → IsJob job → IsMesh mesh → AreMaterials items → (lit job mesh items files).end ≡ Ok world → IsWorld world
 lit_is job mesh items files world hj hm hi e =
     let w = went_through (lights_of job.lights job.seed files) (λ lights. at_once (Ok (world_by job mesh items lights))) world e in
-    subst IsWorld (ok_same (world_by job mesh items w.value) world w.went)
-    (record { job = hj; scene = scene_of_is mesh items w.value job.seed hm hi (lights_are job.lights job.seed files w.value w.stepped) })
+    lit_valid job mesh items w.value world hj hm hi (lights_are job.lights job.seed files w.value w.stepped) (ok_same (world_by job mesh items w.value) world w.went)
 
 furnished_is : (job : Job) (mesh : Mesh) (files : Files) (world : World) → IsJob job → IsMesh mesh → (furnished job mesh files).end ≡ Ok world → IsWorld world
 furnished_is job mesh files world hj hm e =
@@ -118,3 +138,27 @@ unfolding world_of
 world_is name files world e =
     let w = went_through (job_of name files) (λ job. built job files) world e in
     built_is w.value files world (job_is name files w.value w.stepped) w.went
+
+-- ---- the world of made texts
+
+module _ (made : Made) where
+  made_lit_is : (job : Job) (mesh : Mesh) (items : List Material) (world : World) → IsJob job → IsMesh mesh → AreMaterials items → (made_lit made job mesh items).end ≡ Ok world → IsWorld world
+  made_lit_is job mesh items world hj hm hi e =
+      let w = went_through (lights_text (codes "made.lights") job.seed made.lights) (λ lights. at_once (Ok (world_by job mesh items lights))) world e in
+      lit_valid job mesh items w.value world hj hm hi (lights_text_are (codes "made.lights") job.seed made.lights w.value w.stepped) (ok_same (world_by job mesh items w.value) world w.went)
+
+  made_furnished_is : (job : Job) (mesh : Mesh) (world : World) → IsJob job → IsMesh mesh → (made_furnished made job mesh).end ≡ Ok world → IsWorld world
+  made_furnished_is job mesh world hj hm e =
+      let w = went_through (library_text [] (codes "made.mtl") made.mtl) (λ items. made_lit made job mesh items) world e in
+      made_lit_is job mesh w.value world hj hm (library_text_is [] (codes "made.mtl") made.mtl w.value none_are w.stepped) w.went
+
+  made_built_is : (job : Job) (world : World) → IsJob job → (made_built made job).end ≡ Ok world → IsWorld world
+  made_built_is job world hj e =
+      let w = went_through (mesh_text (codes "made.obj") made.obj) (λ mesh. made_furnished made job mesh) world e in
+      made_furnished_is job w.value world hj (mesh_text_is (codes "made.obj") made.obj w.value w.stepped) w.went
+
+  pub made_world_is : (world : World) → (made_world made).end ≡ Ok world → IsWorld world
+  unfolding made_world
+  made_world_is world e =
+      let w = went_through (job_text (codes "made.txt") made.job) (λ job. made_built made job) world e in
+      made_built_is w.value world (job_text_is (codes "made.txt") made.job w.value w.stepped) w.went

@@ -15,7 +15,7 @@ use Rattle.lc_tool.specs.Lines.{usage_line, memory_line, write_fault_line}
 use Rattle.lc_tool.specs.Noted.{Said, Noted}
 use Rattle.lc_tool.specs.Words.{Command, command_of}
 use Rattle.lc_tool.specs.Work.{Work, calls_of}
-use Rattle.lc_tool.specs.Outcome.{outcome_told, slots_of, status_of}
+use Rattle.lc_tool.specs.Outcome.{outcome, slots_of, status_of}
 use Rattle.lc_tool.specs.Stopped.{Gave, ReadsFirst, StoppedBy, IsStopLine}
 use Rattle.lc_tool.specs.Status.{code}
 
@@ -72,15 +72,15 @@ Runs (Some command) status course before now = Ends status (slots_of (Some comma
 
 -- all that the outcome gives is written, and nothing else
 abbrev pub Does : List (List ℕ) → DeskState → DeskState → Type 0
-Does words before now = Finished (slots_of (command_of words)) (outcome_told words before.held) before now
+Does words before now = Finished (slots_of (command_of words)) (outcome words before.held) before now
 
 -- the run stopped before anything was written
 abbrev pub Stops : List (List ℕ) → Stop → DeskState → DeskState → Type 0
-Stops words stop before now = StoppedBy stop (outcome_told words before.held) before now
+Stops words stop before now = StoppedBy stop (outcome words before.held) before now
 
 -- the run broke off while it wrote
 abbrev pub Breaks : List (List ℕ) → FrameStop → DeskState → DeskState → Type 0
-Breaks words stop before now = BrokenBy stop (slots_of (command_of words)) (outcome_told words before.held) before now
+Breaks words stop before now = BrokenBy stop (slots_of (command_of words)) (outcome words before.held) before now
 
 -- the count of faults of a slot that the command writes rose
 abbrev pub HasFailed : List (List ℕ) → Slot → DeskState → DeskState → Type 0
@@ -95,7 +95,7 @@ pub record IsFaultless (course : Course Work) (before now : DeskState) : Type 0 
 
 -- the status is that of the outcome, or there was no memory
 abbrev pub IsComplete : List (List ℕ) → ℕ → DeskState → DeskState → Type 0
-IsComplete words result before now = (course : Course Work) → outcome_told words before.held ≡ Some course → IsFaultless course before now → (result ≡ status_of course.end) ⊎ (result ≡ 1)
+IsComplete words result before now = (course : Course Work) → outcome words before.held ≡ Some course → IsFaultless course before now → (result ≡ status_of course.end) ⊎ (result ≡ 1)
 
 abbrev pub no_faults : Faults
 no_faults = record { reads = 0; picture = 0; bounds = 0; report = 0; note = 0 }

@@ -3,6 +3,7 @@ pub mod Course
 pub mod Lines
 pub mod Status
 pub mod Work
+pub mod Summaries
 pub mod Outcome
 pub mod Noted
 pub mod Stopped
@@ -22,6 +23,7 @@ pub use Rattle.lc_light.specs.LightFile
 pub use Rattle.lc_obj.specs.ObjFile
 pub use Rattle.lc_mtl.specs.MtlFile
 pub use Rattle.lc_scan.specs.Decimal
+pub use Rattle.lc_scan.specs.Whole
 pub use Rattle.lc_geom.specs.Triangles
 pub use Rattle.lc_geom.specs.Crossing
 pub use Rattle.lc_geom.specs.Hits
@@ -40,6 +42,7 @@ pub use Rattle.lc_cut.specs.Lit
 pub use Rattle.lc_cut.specs.Forest
 pub use Rattle.lc_view.specs.Samples
 pub use Rattle.lc_job.specs.JobFile
+pub use Rattle.lc_make.specs.Made
 pub use Rattle.lc_job.specs.Keys
 pub use Rattle.lc_sample.specs.Scenes
 pub use Rattle.lc_sample.specs.Sampled

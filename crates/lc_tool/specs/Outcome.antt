@@ -1,5 +1,5 @@
 -- What a command answers, by its words and the files.
-use Rattle.std.specs.Prelude.{ℕ, ◌==◌, Bool, List, [], ◌∷◌, ◌++◌, length, map, slice_index, Option, Some, None, Result, Ok, Err, if◌then◌else◌, nat_lt}
+use Rattle.std.specs.Prelude.{ℕ, ◌==◌, codes, Bool, List, [], ◌∷◌, ◌++◌, length, map, slice_index, Option, Some, None, Result, Ok, Err, if◌then◌else◌, nat_lt}
 use Rattle.std.specs.List.{list_any}
 use Rattle.lc_num.specs.Vectors.{zero_vector}
 use Rattle.lc_num.specs.Cosines.{scaled}
@@ -8,7 +8,7 @@ use Rattle.lc_num.specs.declared.vectors.Vec3.{Vec3}
 use Rattle.lc_desk.specs.Calls.{put}
 use Rattle.lc_desk.specs.Desk.{Files}
 use Rattle.lc_desk.specs.declared.desk.Slot.{Slot}
-use Rattle.lc_desk.specs.declared.desk.Slot.TheVariants.{Report}
+use Rattle.lc_desk.specs.declared.desk.Slot.TheVariants.{Picture, Bounds, Report}
 use Rattle.lc_geom.specs.declared.triangle.Tri.{Tri}
 use Rattle.lc_obj.specs.ObjFile as obj
 use Rattle.lc_obj.specs.declared.mesh.Mesh.{Mesh}
@@ -26,6 +26,8 @@ use Rattle.lc_job.specs.declared.stop.JobStop.{JobStop}
 use Rattle.lc_job.specs.declared.stop.JobStop.TheVariants as job_stop
 use Rattle.lc_sample.specs.Scenes.{scene_of}
 use Rattle.lc_record.specs.Record.{line_bytes}
+use Rattle.lc_make.specs.Made.{made_of}
+use Rattle.lc_make.specs.declared.made.Made.{Made}
 use Rattle.lc_frame.specs.Files.{files as frame_files, picture_file}
 use Rattle.lc_frame.specs.Frames.{answers_of, evals_of, render_calls, samples}
 use Rattle.lc_frame.specs.PlainFrames.{plain_calls, plain_lights}
@@ -33,10 +35,11 @@ use Rattle.lc_tool.specs.declared.status.Source.{Source}
 use Rattle.lc_tool.specs.declared.status.Source.TheVariants as source
 use Rattle.lc_tool.specs.declared.world.World.{World}
 use Rattle.lc_tool.specs.Status.{source_code}
+use Rattle.lc_tool.specs.Summaries.{summary_line}
 use Rattle.lc_tool.specs.Course.{Course, Refusal, refuses, and_then, at_once, told}
 use Rattle.lc_tool.specs.Lines.{usage_line, absent_line, long_line, fault_line, missing_line, file_limit}
 use Rattle.lc_tool.specs.Work.{Work}
-use Rattle.lc_tool.specs.Words.{Command, probe, render, plain, command_of}
+use Rattle.lc_tool.specs.Words.{Command, probe, render, plain, make, command_of}
 
 -- ---- reads
 
@@ -61,20 +64,37 @@ unless_stopped name (Some job_stop.Memory) job = Ok job
 unless_stopped name (Some (job_stop.Fault line kind)) job = refuses (source_code source.Job) (fault_line name line kind)
 unless_stopped name (Some (job_stop.Missing key)) job = refuses (source_code source.Job) (missing_line name key)
 
+-- ---- texts under a name
+
+-- the job of a text
+abbrev pub job_text : List ℕ → List ℕ → Course Job
+job_text name text = at_once (unless_stopped name (first_stop text) (job_in text))
+
+-- its mesh
+abbrev pub mesh_text : List ℕ → List ℕ → Course Mesh
+mesh_text name text = at_once (unless_faulty source.Scene name (obj.fault_in text) (obj.mesh text))
+
+-- the materials of a library's text, after those before
+abbrev pub library_text : List Material → List ℕ → List ℕ → Course (List Material)
+library_text before name text = at_once (unless_faulty source.Library name (mtl.fault_in (length before) text) (mtl.materials before text))
+
+-- the lights of a text
+abbrev pub lights_text : List ℕ → ℕ → List ℕ → Course Lights
+lights_text name seed text = at_once (unless_faulty source.Lights name (light.fault_in text) (light.lights text seed))
+
+-- ---- files
+
 -- the job of a file
 abbrev pub job_of : List ℕ → Files → Course Job
-job_of name files = and_then (text_of file_limit name files) (λ text. at_once (unless_stopped name (first_stop text) (job_in text)))
+job_of name files = and_then (text_of file_limit name files) (λ text. job_text name text)
 
 -- the mesh of a file
 abbrev pub mesh_of : List ℕ → Files → Course Mesh
-mesh_of name files =
-    and_then (text_of file_limit name files) (λ text. at_once (unless_faulty source.Scene name (obj.fault_in text) (obj.mesh text)))
+mesh_of name files = and_then (text_of file_limit name files) (λ text. mesh_text name text)
 
 -- the materials of a library, after those before
 abbrev pub library_of : List Material → List ℕ → Files → Course (List Material)
-library_of before name files =
-    and_then (text_of file_limit name files)
-    (λ text. at_once (unless_faulty source.Library name (mtl.fault_in (length before) text) (mtl.materials before text)))
+library_of before name files = and_then (text_of file_limit name files) (λ text. library_text before name text)
 
 -- the materials of libraries, one after another, after those before
 unfoldable pub libraries_of : List (List ℕ) → List Material → Files → Course (List Material)
@@ -83,9 +103,7 @@ libraries_of (name ∷ later) before files = and_then (library_of before name fi
 
 -- the lights of a file
 abbrev pub lights_of : List ℕ → ℕ → Files → Course Lights
-lights_of name seed files =
-    and_then (text_of file_limit name files)
-    (λ text. at_once (unless_faulty source.Lights name (light.fault_in text) (light.lights text seed)))
+lights_of name seed files = and_then (text_of file_limit name files) (λ text. lights_text name seed text)
 
 -- ---- names
 
@@ -183,26 +201,57 @@ plain_work world = record { calls = plain_calls world.job (plain_lights world.jo
 abbrev pub plain_course : List ℕ → Files → Course Work
 plain_course name files = frame_course plain_work name files
 
+-- ---- make
+
+-- with the lights of made texts
+abbrev pub made_lit : Made → Job → Mesh → List Material → Course World
+made_lit made job mesh items =
+    and_then (lights_text (codes "made.lights") job.seed made.lights) (λ lights. at_once (Ok (world_by job mesh items lights)))
+
+-- with their materials
+abbrev pub made_furnished : Made → Job → Mesh → Course World
+made_furnished made job mesh = and_then (library_text [] (codes "made.mtl") made.mtl) (λ items. made_lit made job mesh items)
+
+-- with their mesh
+abbrev pub made_built : Made → Job → Course World
+made_built made job = and_then (mesh_text (codes "made.obj") made.obj) (λ mesh. made_furnished made job mesh)
+
+-- the world of made texts, which stand in the place of files; nothing is read
+unfoldable pub made_world : Made → Course World
+made_world made = and_then (job_text (codes "made.txt") made.job) (λ job. made_built made job)
+
+-- the picture and the record of a world, and a line in short
+unfoldable pub make_work : ℕ → World → Work
+make_work number world = record {
+  calls = render_calls world.job (answers_of world.job world.scene) ++ put Report (summary_line number (samples (answers_of world.job world.scene))) ∷ [];
+  evals = evals_of (samples (answers_of world.job world.scene));
+}
+
+abbrev pub make_course : ℕ → Course Work
+make_course number = and_then (made_world (made_of number)) (λ world. at_once (Ok (make_work number world)))
+
 -- ---- all commands
 
-abbrev pub course_of : Option Command → Files → Course Work
-course_of None files = at_once (refuses 2 usage_line)
-course_of (Some (probe name place direction)) files = probe_course name place direction files
-course_of (Some (render name)) files = render_course name files
-course_of (Some (plain name)) files = plain_course name files
+-- the course of a command over the files that a desk holds, where it tells them; that of `make` needs none
+abbrev pub course_of : Option Command → Option Files → Option (Course Work)
+course_of None held = Some (at_once (refuses 2 usage_line))
+course_of (Some (probe name place direction)) held = told (probe_course name place direction) held
+course_of (Some (render name)) held = told (render_course name) held
+course_of (Some (plain name)) held = told (plain_course name) held
+course_of (Some (make number)) held = Some (make_course number)
 
--- the outcome of these words over these files
-abbrev pub outcome : List (List ℕ) → Files → Course Work
-outcome words files = course_of (command_of words) files
-
--- the outcome over the files of a desk, where it tells them
-abbrev pub outcome_told : List (List ℕ) → Option Files → Option (Course Work)
-outcome_told words held = told (outcome words) held
+-- the outcome of these words over the files that a desk holds
+abbrev pub outcome : List (List ℕ) → Option Files → Option (Course Work)
+outcome words held = course_of (command_of words) held
 
 -- the status of an outcome
 abbrev pub status_of : {A : Type 0} → Result A Refusal → ℕ
 status_of (Ok a) = 0
 status_of (Err r) = r.status
+
+-- the slots that `make` writes
+abbrev pub made_files : List Slot
+made_files = Picture ∷ Bounds ∷ Report ∷ []
 
 -- the slots that a command writes
 abbrev pub slots_of : Option Command → List Slot
@@ -210,3 +259,4 @@ slots_of None = []
 slots_of (Some (probe name place direction)) = Report ∷ []
 slots_of (Some (render name)) = frame_files
 slots_of (Some (plain name)) = picture_file
+slots_of (Some (make number)) = made_files

@@ -1,6 +1,6 @@
--- What `render` and `plain` have left where they are done, and what they may have left where they are not.
+-- What `render`, `make` and `plain` have left where they are done, and what they may have left where they are not.
 use Rattle.std.specs.Prelude.{◌≡◌, ◌+◌, ◌*◌, ◌≤◌, ◌⊎◌, ℕ, List, All, Option, Some, None, IfSome, Ok}
-use Rattle.lc_desk.specs.Desk.{DeskState, Files, appended, opened}
+use Rattle.lc_desk.specs.Desk.{DeskState, Files, TookPart, appended, opened}
 use Rattle.lc_rated.specs.declared.answer.Answer.{Answer}
 use Rattle.lc_rated.specs.Cuts.{IsNear, IsFraction}
 use Rattle.lc_view.specs.Samples.{picture_rays}
@@ -9,8 +9,10 @@ use Rattle.lc_frame.specs.Files.{LeftPart}
 use Rattle.lc_frame.specs.Frames.{answers_of, evals_of, flat, picture_text, record_text, samples}
 use Rattle.lc_frame.specs.PlainFrames.{plain_lights, plain_picture}
 use Rattle.lc_tool.specs.declared.world.World.{World}
-use Rattle.lc_tool.specs.Outcome.{world_of}
-use Rattle.lc_tool.specs.Words.{Command, probe, render, plain, command_of}
+use Rattle.lc_make.specs.Made.{made_of}
+use Rattle.lc_tool.specs.Outcome.{made_world, world_of}
+use Rattle.lc_tool.specs.Summaries.{summary_line}
+use Rattle.lc_tool.specs.Words.{Command, probe, render, plain, make, command_of}
 
 -- the words are a command on a job, and by the files that the desk tells this is the world of that job
 pub record IsOf (asks : List ℕ → Command) (words : List (List ℕ)) (held : Option Files) (world : World) : Type 0 where
@@ -28,15 +30,28 @@ IsRenderOf words held world = IsOf render words held world
 abbrev pub IsPlainOf : List (List ℕ) → Option Files → World → Type 0
 IsPlainOf words held world = IsOf plain words held world
 
--- where the words are a command on a job and the desk tells its files, these tell the world of the job
-abbrev pub TellsWorld : Option Command → Files → Type 0
-TellsWorld None files = Unit {0}
-TellsWorld (Some (probe name place direction)) files = Unit {0}
-TellsWorld (Some (render name)) files = (world : World) × ((world_of name files).end ≡ Ok world)
-TellsWorld (Some (plain name)) files = (world : World) × ((world_of name files).end ≡ Ok world)
+-- the words are `make`, and this is the world of the texts that are made of its number
+pub record IsMakeOf (words : List (List ℕ)) (world : World) : Type 0 where
+  pub number : ℕ
+  pub command : command_of words ≡ Some (make number)
+  pub tells : (made_world (made_of number)).end ≡ Ok world
 
-abbrev pub HasWorld : List (List ℕ) → Option Files → Type 0
-HasWorld words held = IfSome held (TellsWorld (command_of words))
+-- the words are `render` or `make`, and this is the world whose picture and record they ask for
+abbrev pub Renders : List (List ℕ) → Option Files → World → Type 0
+Renders words held world = IsRenderOf words held world ⊎ IsMakeOf words world
+
+-- files tell the world of this job
+abbrev pub TellsWorld : List ℕ → Files → Type 0
+TellsWorld name files = (world : World) × ((world_of name files).end ≡ Ok world)
+
+-- where the words are a command on a job and the desk tells its files, these tell the world of the job; and the texts that
+-- `make` makes tell a world
+abbrev pub HasWorld : Option Command → Option Files → Type 0
+HasWorld None held = Unit {0}
+HasWorld (Some (probe name place direction)) held = Unit {0}
+HasWorld (Some (render name)) held = IfSome held (TellsWorld name)
+HasWorld (Some (plain name)) held = IfSome held (TellsWorld name)
+HasWorld (Some (make number)) held = (world : World) × ((made_world (made_of number)).end ≡ Ok world)
 
 -- the answers that are recorded: one for each sample of the picture
 abbrev pub recorded : World → List Answer
@@ -66,11 +81,20 @@ HasRecord world before now = now.slots.bounds ≡ appended (record_text world.jo
 abbrev pub HasPicture : World → DeskState → DeskState → Type 0
 HasPicture world before now = now.slots.picture ≡ appended (picture_text world.job (answers_of world.job world.scene)) (opened world.job.picture before.slots.picture)
 
--- each file is as it was, or was begun under the job's name and has a first part of those bytes; Report is as it was
+-- each file is as it was, or was begun under the job's name and has a first part of those bytes
 pub record LeavesParts (world : World) (before now : DeskState) : Type 0 where
   pub picture : LeftPart world.job.picture (picture_text world.job (answers_of world.job world.scene)) before.slots.picture now.slots.picture
   pub bounds : LeftPart world.job.bounds (record_text world.job (answers_of world.job world.scene)) before.slots.bounds now.slots.bounds
-  pub report : now.slots.report ≡ before.slots.report
+
+-- ---- make
+
+-- Report has the line of the answers more
+abbrev pub HasSummary : ℕ → World → DeskState → DeskState → Type 0
+HasSummary number world before now = now.slots.report ≡ appended (summary_line number (recorded world)) before.slots.report
+
+-- Report has a first part of that line more
+abbrev pub LeavesSummary : ℕ → World → DeskState → DeskState → Type 0
+LeavesSummary number world before now = TookPart (summary_line number (recorded world)) before.slots.report now.slots.report
 
 -- ---- plain
 

@@ -4,6 +4,7 @@ use Rattle.std.proofs.Common.{Bor}
 use Rattle.std.specs.Str.{bytes_eq}
 use Rattle.lc_num.specs.declared.vectors.Vec3.{Vec3}
 use Rattle.lc_scan.specs.Decimal.{decimal_of}
+use Rattle.lc_scan.specs.Whole.{whole_of}
 use Rattle.lc_scan.specs.declared.fault.NumFault.{NumFault}
 
 -- the words as they are passed
@@ -17,6 +18,8 @@ pub data Command : Type 0 where
   render : List ℕ → Command
   -- the name of a job, whose picture is made by the sum over all lights
   plain : List ℕ → Command
+  -- the number of a scene that is made of it, whose picture and record are made
+  make : ℕ → Command
 
 abbrev pub in_range : Result ℤ NumFault → Option ℤ
 in_range (Err fault) = None
@@ -45,6 +48,11 @@ vector_at words k = vector_of (coordinate (word_at words k)) (coordinate (word_a
 abbrev pub begins : List (List ℕ) → List ℕ → ℕ → Bool
 begins words first count = length words == count && bytes_eq (word_at words 0) first
 
+-- a whole number of at most 9999
+abbrev pub make_of : Result ℕ NumFault → Option Command
+make_of (Err fault) = None
+make_of (Ok n) = if nat_lt 9999 n then None else Some (make n)
+
 -- the command; nothing where the words are none
 abbrev pub command_of : List (List ℕ) → Option Command
 command_of words =
@@ -52,4 +60,6 @@ command_of words =
     then probe_of (word_at words 1) (vector_at words 2) (vector_at words 5)
     else (if begins words (codes "render") 2
     then Some (render (word_at words 1))
-    else (if begins words (codes "plain") 2 then Some (plain (word_at words 1)) else None))
+    else (if begins words (codes "plain") 2
+    then Some (plain (word_at words 1))
+    else (if begins words (codes "make") 2 then make_of (whole_of (word_at words 1)) else None)))

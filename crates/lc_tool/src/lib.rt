@@ -2,20 +2,29 @@
 #![tactic(auto)]
 
 mod fixed;
+mod make;
 mod names;
 mod note;
+mod parse;
 mod plain;
 mod probe;
 mod program;
 mod read;
 mod render;
 mod status;
+mod summary;
 mod words;
 mod world;
 mod write;
 
 pub use program::run;
 
+#[cfg(test)]
+mod failing_tests;
+#[cfg(test)]
+mod limit_tests;
+#[cfg(test)]
+mod make_tests;
 #[cfg(test)]
 mod render_tests;
 #[cfg(test)]

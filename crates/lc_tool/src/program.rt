@@ -1,17 +1,18 @@
 // The call of the program.
-ghost use Rattle.std.specs.Prelude.{◌≡◌, ◌⊎◌, ◌≤◌, None, ◌↔◌, IfSome, IsTrue};
+ghost use Rattle.std.specs.Prelude.{◌≡◌, ◌⊎◌, ◌≤◌, ℕ, None, Some, ◌↔◌, IfSome, IsTrue};
 ghost use Rattle.lc_desk.specs.declared.desk.Slot.{Slot};
 ghost use Rattle.lc_frame.specs.declared.stop.FrameStop.TheVariants as frame;
 ghost use Rattle.lc_tool.specs.declared.status.Source.{Source};
 ghost use Rattle.lc_tool.specs.declared.status.Stop.TheVariants as stop;
 ghost use Rattle.lc_tool.specs.declared.world.World.{World};
-ghost use Rattle.lc_tool.specs.Words.{command_of, texts};
+ghost use Rattle.lc_tool.specs.Words.{make as make_words, command_of, texts};
 ghost use Rattle.lc_tool.specs.Status.{source_code};
-ghost use Rattle.lc_tool.specs.Outcome.{outcome_told};
+ghost use Rattle.lc_tool.specs.Outcome.{outcome};
 ghost use Rattle.lc_tool.specs.Ends.{Runs, Counts, Does, Stops, Breaks, HasFailed, HasLine, SameOutputs, IsComplete, OpensOnly, no_faults};
 ghost use Rattle.lc_tool.specs.Probed.{Records};
-ghost use Rattle.lc_tool.specs.Rendered.{AreCounted, AreFractions, AreNear, HasPicture, HasPlainPicture, HasRecord, HasWorld, IsPlainOf, IsRenderOf, LeavesParts, LeavesPlainPart};
+ghost use Rattle.lc_tool.specs.Rendered.{AreCounted, AreFractions, AreNear, HasPicture, HasPlainPicture, HasRecord, HasSummary, HasWorld, IsMakeOf, IsPlainOf, IsRenderOf, LeavesParts, LeavesPlainPart, LeavesSummary, Renders};
 
+use crate::make::make;
 use crate::note::note_usage;
 use crate::plain::plain;
 use crate::probe::probe;
@@ -29,8 +30,8 @@ fn attempt<D: Desk, L: Ledger>(
     desk: &mut D,
     steps: &mut Steps<L>,
 ) -> Status
-    ensures runs { Runs (command_of (texts words.now)) result (outcome_told (texts words.now) (D.state desk.old).held) (D.state desk.old) (D.state desk.new) }
-    ensures counted { Counts result (outcome_told (texts words.now) (D.state desk.old).held) steps.old steps.new }
+    ensures runs { Runs (command_of (texts words.now)) result (outcome (texts words.now) (D.state desk.old).held) (D.state desk.old) (D.state desk.new) }
+    ensures counted { Counts result (outcome (texts words.now) (D.state desk.old).held) steps.old steps.new }
 {
     match read_words(words) {
         Some(
@@ -42,6 +43,7 @@ fn attempt<D: Desk, L: Ledger>(
         ) => probe(alloc, lights, place, direction, desk, steps),
         Some(Command::Render { job }) => render(alloc, job, desk, steps),
         Some(Command::Plain { job }) => plain(alloc, job, desk),
+        Some(Command::Make { number }) => make(alloc, number, desk, steps),
         None => {
             note_usage(desk);
             Status::Usage
@@ -60,34 +62,45 @@ pub fn run<D: Desk, L: Ledger>(
     ensures recorded { result ≡ 0 →
         Records (texts words.now) (D.state desk.old) (D.state desk.new) steps.old steps.new }
 
-    // Where `render` is done over a desk that tells its files, they tell a world of its job. At each sample of the picture the
-    // recorded estimate is within the recorded bound of the sum over all lights; the bound is within the job's permille of
-    // the estimate unless the cut has the job's greatest size; the evaluations are counted, at most twice that size at each
-    // sample; the record's file is exactly the record of these answers, and the picture's file exactly their tone mapping.
-    ensures near { result ≡ 0 → (world : World) → IsRenderOf (texts words.now) (D.state desk.old).held world → AreNear world }
-    ensures fraction { result ≡ 0 → (world : World) → IsRenderOf (texts words.now) (D.state desk.old).held world → AreFractions world }
-    ensures counted { result ≡ 0 → (world : World) → IsRenderOf (texts words.now) (D.state desk.old).held world →
+    // Where `render` is done over a desk that tells its files, they tell a world of its job; where `make` is done, over every
+    // desk, its made texts tell one. At each sample of the picture the recorded estimate is within the recorded bound of the
+    // sum over all lights; the bound is within the job's permille of the estimate unless the cut has the job's greatest size;
+    // the evaluations are counted, at most twice that size at each sample; the record's file is exactly the record of these
+    // answers, and the picture's file exactly their tone mapping.
+    ensures near { result ≡ 0 → (world : World) → Renders (texts words.now) (D.state desk.old).held world → AreNear world }
+    ensures fraction { result ≡ 0 → (world : World) → Renders (texts words.now) (D.state desk.old).held world → AreFractions world }
+    ensures counted { result ≡ 0 → (world : World) → Renders (texts words.now) (D.state desk.old).held world →
         AreCounted world steps.old steps.new }
-    ensures record { result ≡ 0 → (world : World) → IsRenderOf (texts words.now) (D.state desk.old).held world →
+    ensures record { result ≡ 0 → (world : World) → Renders (texts words.now) (D.state desk.old).held world →
         HasRecord world (D.state desk.old) (D.state desk.new) }
-    ensures picture { result ≡ 0 → (world : World) → IsRenderOf (texts words.now) (D.state desk.old).held world →
+    ensures picture { result ≡ 0 → (world : World) → Renders (texts words.now) (D.state desk.old).held world →
         HasPicture world (D.state desk.old) (D.state desk.new) }
-    ensures world { result ≡ 0 → HasWorld (texts words.now) (D.state desk.old).held }
+    ensures world { result ≡ 0 → HasWorld (command_of (texts words.now)) (D.state desk.old).held }
 
     // Where `plain` is done over a desk that tells its files, the picture's file is exactly the tone mapping of the sums over
     // all lights.
     ensures plain { result ≡ 0 → (world : World) → IsPlainOf (texts words.now) (D.state desk.old).held world →
         HasPlainPicture world (D.state desk.old) (D.state desk.new) }
 
-    // Whatever the status, each of the two files of `render` is as it was, or was begun under the job's name and has a first
-    // part of those bytes.
-    ensures parts { (world : World) → IsRenderOf (texts words.now) (D.state desk.old).held world →
+    // Whatever the status, each of the two files of `render` and `make` is as it was, or was begun under the job's name and
+    // has a first part of those bytes.
+    ensures parts { (world : World) → Renders (texts words.now) (D.state desk.old).held world →
         LeavesParts world (D.state desk.old) (D.state desk.new) }
+    ensures report { (world : World) → IsRenderOf (texts words.now) (D.state desk.old).held world →
+        (D.state desk.new).slots.report ≡ (D.state desk.old).slots.report }
     ensures plain_part { (world : World) → IsPlainOf (texts words.now) (D.state desk.old).held world →
         LeavesPlainPart world (D.state desk.old) (D.state desk.new) }
 
+    // `make` tells its answers in short on Report, or a first part of that line where it is not done. It reads no file.
+    ensures summary { result ≡ 0 → (world : World) → (m : IsMakeOf (texts words.now) world) →
+        HasSummary m.number world (D.state desk.old) (D.state desk.new) }
+    ensures summary_part { (world : World) → (m : IsMakeOf (texts words.now) world) →
+        LeavesSummary m.number world (D.state desk.old) (D.state desk.new) }
+    ensures made { (number : ℕ) → command_of (texts words.now) ≡ Some (make_words number) →
+        ¬ (result ≡ 7) × ¬ (result ≡ 8) × ¬ (result ≡ 10) }
+
     // It reads no file but those of the outcome, in their order, and begins none but those that it writes.
-    ensures opens { IfSome (outcome_told (texts words.now) (D.state desk.old).held)
+    ensures opens { IfSome (outcome (texts words.now) (D.state desk.old).held)
         (OpensOnly (D.state desk.old) (D.state desk.new)) }
 
     // 0 comes only where nothing is refused, and then all is written and nothing else.

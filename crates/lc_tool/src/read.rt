@@ -10,14 +10,15 @@ ghost use Rattle.lc_tool.specs.Outcome.{beside as beside_name, job_of, libraries
 ghost use Rattle.lc_tool.specs.Stopped.{StoppedBy, Went};
 
 use crate::names::beside;
-use crate::note::{note_absent, note_fault, note_long, note_memory, note_missing, note_read_fault};
-use crate::status::{Source, Stop};
+use crate::note::{note_absent, note_long, note_memory, note_read_fault};
+use crate::parse::{parse_job, parse_library, parse_lights, parse_scene};
+use crate::status::Stop;
 use lc_desk::{Desk, ReadStop};
-use lc_job::{Job, JobStop, read_job};
-use lc_light::{LightStop, Lights, read_lights};
-use lc_mtl::{Materials, MtlStop, read_mtl};
+use lc_job::Job;
+use lc_light::Lights;
+use lc_mtl::Materials;
 use lc_num::Name;
-use lc_obj::{Mesh, ObjStop, read_obj};
+use lc_obj::Mesh;
 use std::alloc::Global;
 
 /// The most bytes of a file that is read, but of a record: 128 MiB.
@@ -58,21 +59,7 @@ pub fn read_job_file<D: Desk>(alloc: Global, name: &str, desk: &mut D) -> Result
     ensures stopped { IfErr result (λ stop. StoppedBy stop (told (job_of name.now) (D.state desk.old).held) (D.state desk.old) (D.state desk.new)) }
 {
     let text = read_text(alloc, name, desk)?;
-    match read_job(alloc, &text) {
-        Ok(job) => Ok(job),
-        Err(JobStop::Memory) => {
-            note_memory(desk);
-            Err(Stop::Memory)
-        }
-        Err(JobStop::Fault { line, kind }) => {
-            note_fault(desk, name, line, kind);
-            Err(Stop::Faulty(Source::Job))
-        }
-        Err(JobStop::Missing { key }) => {
-            note_missing(desk, name, key);
-            Err(Stop::Faulty(Source::Job))
-        }
-    }
+    parse_job(alloc, name, &text, desk)
 }
 
 /// Reads the mesh of a file. A refusal is told on Note.
@@ -82,17 +69,7 @@ pub fn read_scene_file<D: Desk>(alloc: Global, name: &str, desk: &mut D) -> Resu
     ensures stopped { IfErr result (λ stop. StoppedBy stop (told (mesh_of name.now) (D.state desk.old).held) (D.state desk.old) (D.state desk.new)) }
 {
     let text = read_text(alloc, name, desk)?;
-    match read_obj(alloc, &text) {
-        Ok(mesh) => Ok(mesh),
-        Err(ObjStop::Memory) => {
-            note_memory(desk);
-            Err(Stop::Memory)
-        }
-        Err(ObjStop::Fault { line, kind }) => {
-            note_fault(desk, name, line, kind);
-            Err(Stop::Faulty(Source::Scene))
-        }
-    }
+    parse_scene(alloc, name, &text, desk)
 }
 
 /// Reads the materials of a library after those before. A refusal is told on Note.
@@ -108,17 +85,7 @@ fn read_library<D: Desk>(
     ensures stopped { IfErr result (λ stop. StoppedBy stop (told (library_of materials.old.items name.now) (D.state desk.old).held) (D.state desk.old) (D.state desk.new)) }
 {
     let text = read_text(alloc, name, desk)?;
-    match read_mtl(alloc, &text, materials) {
-        Ok(()) => Ok(()),
-        Err(MtlStop::Memory) => {
-            note_memory(desk);
-            Err(Stop::Memory)
-        }
-        Err(MtlStop::Fault { line, kind }) => {
-            note_fault(desk, name, line, kind);
-            Err(Stop::Faulty(Source::Library))
-        }
-    }
+    parse_library(alloc, name, &text, materials, desk)
 }
 
 /// Reads a library that a scene names. A refusal is told on Note.
@@ -173,15 +140,5 @@ pub fn read_light_file<D: Desk>(
     ensures stopped { IfErr result (λ stop. StoppedBy stop (told (lights_of name.now seed) (D.state desk.old).held) (D.state desk.old) (D.state desk.new)) }
 {
     let text = read_text(alloc, name, desk)?;
-    match read_lights(alloc, &text, seed) {
-        Ok(lights) => Ok(lights),
-        Err(LightStop::Memory) => {
-            note_memory(desk);
-            Err(Stop::Memory)
-        }
-        Err(LightStop::Fault { line, kind }) => {
-            note_fault(desk, name, line, kind);
-            Err(Stop::Faulty(Source::Lights))
-        }
-    }
+    parse_lights(alloc, name, seed, &text, desk)
 }

@@ -315,10 +315,10 @@ fn renders_grids(rt: HostRuntime) -> Result<(), Fail> {
     Ok(())
 }
 
-const CUBE: &str =
+pub(crate) const CUBE: &str =
     "# a cube\nmtllib cube.mtl\no Cube\nv 1.000000 1.000000 -1.000000\nv 1.000000 -1.000000 -1.000000\nv 1.000000 1.000000 1.000000\nv 1.000000 -1.000000 1.000000\nv -1.000000 1.000000 -1.000000\nv -1.000000 -1.000000 -1.000000\nv -1.000000 1.000000 1.000000\nv -1.000000 -1.000000 1.000000\nvn 0.0000 1.0000 0.0000\nvn 0.0000 0.0000 1.0000\nvn -1.0000 0.0000 0.0000\nvn 0.0000 -1.0000 0.0000\nvn 1.0000 0.0000 0.0000\nvn 0.0000 0.0000 -1.0000\nusemtl Material\ns 0\nf 1//1 5//1 7//1 3//1\nf 4//2 3//2 7//2 8//2\nf 8//3 7//3 5//3 6//3\nf 6//4 2//4 4//4 8//4\nf 2//5 1//5 3//5 4//5\nf 6//6 5//6 1//6 2//6\n";
 
-const CUBE_MATERIAL: &[u8] =
+pub(crate) const CUBE_MATERIAL: &[u8] =
     b"newmtl Material\nNs 225.000000\nKa 1.000000 1.000000 1.000000\nKd 0.800000 0.800000 0.800000\nKs 0.500000 0.500000 0.500000\nKe 0.000000 0.000000 0.000000\nNi 1.450000\nd 1.000000\nillum 2\n";
 
 // A cube as Blender writes it, with normals and a highlight, under 300 samples of an area light.

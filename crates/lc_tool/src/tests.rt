@@ -193,6 +193,24 @@ fn refuses_words_that_are_no_command(rt: HostRuntime) -> Result<(), Fail> {
     }
     let other = ["Probe", "l.txt", "0", "0", "0", "0", "0", "1"];
     assert_eq!(rt; serve(rt.alloc(), &other, &mut desk), 2);
+    for number in [
+        "10000",
+        "-1",
+        "+1",
+        "1.0",
+        "1x",
+        "",
+        " 1",
+        "18446744073709551616",
+    ] {
+        assert_eq!(rt;
+            serve(rt.alloc(), &["make", number], &mut desk),
+            2,
+            "{number}"
+        );
+    }
+    assert_eq!(rt; serve(rt.alloc(), &["make"], &mut desk), 2);
+    assert_eq!(rt; serve(rt.alloc(), &["make", "1", "2"], &mut desk), 2);
     Ok(())
 }
 

@@ -1,11 +1,12 @@
 // The words of the command line.
 ghost use Rattle.std.specs.Prelude.{◌≡◌, ◌≤◌, option_map, IfSome, unsigned_abs};
-ghost use Rattle.lc_tool.specs.Words.{command_of, probe_of, coordinate, vector_of, texts};
+ghost use Rattle.lc_scan.specs.Whole.{whole_of};
+ghost use Rattle.lc_tool.specs.Words.{command_of, probe_of, make_of, coordinate, vector_of, texts};
 ghost use Rattle.lc_num.specs.Vectors.{Within};
 ghost use Rattle.lc_tool.specs.Meant.{meant, IsInRange};
 
 use lc_num::Vec3;
-use lc_scan::decimal;
+use lc_scan::{decimal, whole};
 
 /// A command.
 #[derive(Clone, Copy)]
@@ -24,9 +25,17 @@ pub enum Command<'a> {
     Plain {
         job: &'a str,
     },
+    /// The picture and the record of the scene that is made of a number.
+    Make {
+        number: u32,
+    },
 }
 
+/// The greatest coordinate, 5000 in units of 1/10000.
 const MOST: u64 = 50_000_000;
+
+/// The greatest number that a scene is made of.
+const LAST_SCENE: u64 = 9999;
 
 #[tactic(auto, unfolding(crate::specs::Words::coordinate))]
 fn coordinate(word: &str) -> Option<i64>
@@ -67,6 +76,19 @@ fn probe_command<'a>(
     })
 }
 
+/// The command `make`, where its number is one.
+fn make_command<'a>(number: &str) -> Option<Command<'a>>
+    ensures value { option_map meant result ≡ make_of (whole_of number.now) }
+    ensures range { IfSome result IsInRange }
+{
+    match whole(number.as_bytes()) {
+        Ok(number) if number <= LAST_SCENE => Some(Command::Make {
+            number: number as u32,
+        }),
+        _ => None,
+    }
+}
+
 /// The command that the words are.
 pub fn read_words<'a>(words: &[&'a str]) -> Option<Command<'a>>
     ensures value { option_map meant result ≡ command_of (texts words.now) }
@@ -78,6 +100,7 @@ pub fn read_words<'a>(words: &[&'a str]) -> Option<Command<'a>>
         }
         [word, job] if *word == "render" => Some(Command::Render { job }),
         [word, job] if *word == "plain" => Some(Command::Plain { job }),
+        [word, number] if *word == "make" => make_command(number),
         _ => None,
     }
 }

@@ -1,10 +1,11 @@
 // The world of a job: what is seen and what lights it.
-ghost use Rattle.std.specs.Prelude.{◌≡◌, IfOk, IfErr};
+ghost use Rattle.std.specs.Prelude.{◌≡◌, IfOk, IfErr, Ok, Some};
+ghost use Rattle.lc_light.specs.Lights.{AreLights};
 ghost use Rattle.lc_mtl.specs.Materials.{AreMaterials};
 ghost use Rattle.lc_obj.specs.Meshes.{IsMesh};
 ghost use Rattle.lc_job.specs.Jobs.{IsJob};
-ghost use Rattle.lc_tool.specs.Course.{told};
-ghost use Rattle.lc_tool.specs.Outcome.{built, furnished, lit, world_of};
+ghost use Rattle.lc_tool.specs.Course.{at_once, told};
+ghost use Rattle.lc_tool.specs.Outcome.{built, furnished, lit, world_by, world_of};
 ghost use Rattle.lc_tool.specs.Stopped.{StoppedBy, Went};
 
 use crate::note::note_memory;
@@ -12,6 +13,7 @@ use crate::read::{read_job_file, read_libraries, read_light_file, read_scene_fil
 use crate::status::Stop;
 use lc_desk::Desk;
 use lc_job::Job;
+use lc_light::Lights;
 use lc_mtl::Materials;
 use lc_obj::Mesh;
 use lc_sample::Scene;
@@ -22,6 +24,31 @@ use std::alloc::Global;
 pub struct World {
     pub job: Job,
     pub scene: Scene,
+}
+
+/// The world of a job, of a mesh, of materials and of lights. Want of memory is told on Note.
+pub fn join_world<D: Desk>(
+    alloc: Global,
+    job: Job,
+    mesh: Mesh,
+    materials: &Materials,
+    lights: Lights,
+    desk: &mut D,
+) -> Result<World, Stop>
+    requires mesh { IsMesh mesh }
+    requires materials { AreMaterials materials.now.items }
+    requires lights { AreLights lights }
+    ensures went { IfOk result (λ world. Went (Some (at_once (Ok (world_by job mesh materials.now.items lights)))) world (D.state desk.old) (D.state desk.new)) }
+    ensures same { IfOk result (λ world. world.job ≡ job) }
+    ensures stopped { IfErr result (λ stop. StoppedBy stop (Some (at_once (Ok (world_by job mesh materials.now.items lights)))) (D.state desk.old) (D.state desk.new)) }
+{
+    match Scene::join(alloc, mesh, materials, lights, job.seed) {
+        Ok(scene) => Ok(World { job, scene }),
+        Err(_) => {
+            note_memory(desk);
+            Err(Stop::Memory)
+        }
+    }
 }
 
 /// The world of a mesh and of materials, with the lights of the job. A refusal is told on Note.
@@ -39,13 +66,7 @@ fn light_scene<D: Desk>(
     ensures stopped { IfErr result (λ stop. StoppedBy stop (told (lit job mesh materials.now.items) (D.state desk.old).held) (D.state desk.old) (D.state desk.new)) }
 {
     let lights = read_light_file(alloc, job.lights.as_str(), job.seed, desk)?;
-    match Scene::join(alloc, mesh, materials, lights, job.seed) {
-        Ok(scene) => Ok(World { job, scene }),
-        Err(_) => {
-            note_memory(desk);
-            Err(Stop::Memory)
-        }
-    }
+    join_world(alloc, job, mesh, materials, lights, desk)
 }
 
 /// The world of a mesh, with the libraries that it names. A refusal is told on Note.

@@ -2,13 +2,15 @@ use Rattle.std.proofs.Common.{◌≡◌, ◌≤◌, sym, ◌∙◌, subst, ◌�
 use Rattle.lc_tool.specs.Status.{code}
 use Rattle.lc_tool.specs.declared.status.Stop.TheVariants.{Faulty, Absent, ReadFault, Long}
 use Rattle.lc_tool.specs.Words.{command_of, texts}
-use Rattle.lc_tool.specs.Outcome.{status_of}
-use Rattle.lc_tool.specs.Ends.{HasLine}
+use Rattle.lc_tool.specs.Outcome.{course_of, status_of}
+use Rattle.lc_tool.specs.Ends.{HasLine, Runs}
 use Rattle.lc_tool.proofs.Running.{by_stop, by_done, by_silent, by_failed, by_memory, by_usage, code_most, run_line, run_unwritten, run_complete, run_steady, run_opens, faulty_more}
 use Rattle.lc_tool.proofs.Proper.{command_proper}
 use Rattle.lc_tool.proofs.Recording.{run_recorded}
 use Rattle.lc_tool.proofs.PlainRuns.{run_plain, run_plain_part}
-use Rattle.lc_tool.proofs.Rendering.{render_fractions, render_near, run_counted, run_parts, run_picture, run_record, run_world}
+use Rattle.lc_tool.proofs.Making.{make_never, make_summary, make_summary_part}
+use Rattle.lc_tool.proofs.Pictures.{run_counted, run_fractions, run_near, run_parts, run_picture, run_record, run_world}
+use Rattle.lc_tool.proofs.Rendering.{run_report}
 use Rattle.lc_tool.proofs.program.run.Goals as goal
 
 pub returns-clause-recorded : goal.returns-clause-recorded
@@ -17,10 +19,10 @@ returns-clause-recorded g c = λ zero.
     (command_proper (texts c.args.words.now)) c.attempt.ensures.runs c.attempt.ensures.counted (sym c.code.ensures ∙ zero)
 
 pub returns-clause-near : goal.returns-clause-near
-returns-clause-near g c = λ zero world r. render_near (texts c.args.words.now) _ world r
+returns-clause-near g c = λ zero world r. run_near (texts c.args.words.now) _ world r
 
 pub returns-clause-fraction : goal.returns-clause-fraction
-returns-clause-fraction g c = λ zero world r. render_fractions (texts c.args.words.now) _ world r
+returns-clause-fraction g c = λ zero world r. run_fractions (texts c.args.words.now) _ world r
 
 pub returns-clause-counted : goal.returns-clause-counted
 returns-clause-counted g c = λ zero world r.
@@ -49,6 +51,26 @@ returns-clause-plain_part g c = λ world r.
 pub returns-clause-parts : goal.returns-clause-parts
 returns-clause-parts g c = λ world r.
     run_parts (texts c.args.words.now) c.attempt.result (g.D.Desk.state c.args.desk.now) (g.D.Desk.state c.attempt.new.desk) world r c.attempt.ensures.runs
+
+pub returns-clause-report : goal.returns-clause-report
+returns-clause-report g c = λ world r.
+    run_report (texts c.args.words.now) c.attempt.result (g.D.Desk.state c.args.desk.now) (g.D.Desk.state c.attempt.new.desk) world r c.attempt.ensures.runs
+
+pub returns-clause-summary : goal.returns-clause-summary
+returns-clause-summary g c = λ zero world m.
+    make_summary (texts c.args.words.now) c.attempt.result (g.D.Desk.state c.args.desk.now) (g.D.Desk.state c.attempt.new.desk) world m c.attempt.ensures.runs (sym c.code.ensures ∙ zero)
+
+pub returns-clause-summary_part : goal.returns-clause-summary_part
+returns-clause-summary_part g c = λ world m.
+    make_summary_part (texts c.args.words.now) c.attempt.result (g.D.Desk.state c.args.desk.now) (g.D.Desk.state c.attempt.new.desk) world m c.attempt.ensures.runs
+
+pub returns-clause-made : goal.returns-clause-made
+returns-clause-made g c = λ number is.
+    let number_is : c.code.result ≡ code c.attempt.result = c.code.ensures in
+    let held = (g.D.Desk.state c.args.desk.now).held in
+    let runs = subst (λ o. Runs o c.attempt.result (course_of o held) (g.D.Desk.state c.args.desk.now) (g.D.Desk.state c.attempt.new.desk)) is c.attempt.ensures.runs in
+    subst (λ n. ¬ (n ≡ 7) × ¬ (n ≡ 8) × ¬ (n ≡ 10)) (sym number_is)
+    (make_never number c.attempt.result held (g.D.Desk.state c.args.desk.now) (g.D.Desk.state c.attempt.new.desk) runs)
 
 pub returns-clause-opens : goal.returns-clause-opens
 returns-clause-opens g c = run_opens _ c.attempt.result _ _ _ c.attempt.ensures.runs

@@ -1,34 +1,15 @@
-use Rattle.std.proofs.Common.{◌≡◌, List, ℕ, None, Some, Result, ap, refl, rules}
-use Rattle.lc_light.specs.LightFile.{fault_in, lights}
-use Rattle.lc_light.specs.declared.lights.Lights.{Lights as Held}
-use Rattle.lc_tool.specs.declared.status.Source.TheVariants.{Lights}
-use Rattle.lc_tool.specs.Course.{Refusal, at_once}
-use Rattle.lc_tool.specs.Lines.{fault_line, file_limit}
-use Rattle.lc_tool.specs.Outcome.{text_of, unless_faulty}
-use Rattle.lc_tool.proofs.Courses.{went_last}
-use Rattle.lc_tool.proofs.Stopping.{memory_then, text_then}
+use Rattle.std.proofs.Common.{◌≡◌, rules}
+use Rattle.lc_tool.specs.Lines.{file_limit}
+use Rattle.lc_tool.specs.Outcome.{lights_text, text_of}
+use Rattle.lc_tool.proofs.Parsing.{stopped_parsed, went_parsed}
 use Rattle.lc_tool.proofs.read.read_light_file.Goals as goal
 
-abbrev next : List ℕ → ℕ → List ℕ → Result Held Refusal
-next name seed text = unless_faulty Lights name (fault_in text) (lights text seed)
-
-pub returns-in-Ok-clause-went : goal.returns-in-Ok-clause-went
-returns-in-Ok-clause-went g c =
-    let text = c.in_ok-text.text.items in
-    let none : fault_in text ≡ None = search rules in
-    let mine : c.in-Ok.lights ≡ lights text c.args.seed = search rules in
-    went_last (text_of file_limit c.args.name.now) (λ files text. at_once (next c.args.name.now c.args.seed text)) text c.in-Ok.lights _ _ c.in_ok-text.ensures.went
-    (λ files. rw (none, mine) refl)
-
-pub returns-in-Err-Memory-clause-stopped : goal.returns-in-Err-Memory-clause-stopped
-returns-in-Err-Memory-clause-stopped g c =
-    memory_then (text_of file_limit c.args.name.now) (λ files text. at_once (next c.args.name.now c.args.seed text)) c.in_ok-text.text.items _ _ _
-    c.in_ok-text.ensures.went c.note_memory.ensures.noted c.note_memory.ensures.asked
+pub returns-clause-went : goal.returns-clause-went
+returns-clause-went g c =
+    let text : c.deref.result.now ≡ c.in_ok-text.text.items = search rules in
+    went_parsed (text_of file_limit c.args.name.now) (lights_text c.args.name.now c.args.seed) c.in_ok-text.text.items _ _ _ c.in_ok-text.ensures.went c.parse_lights.result (rw text at c.parse_lights.ensures.went)
 
 pub returns-clause-stopped : goal.returns-clause-stopped
 returns-clause-stopped g c =
-    let text = c.in_ok-text.text.items in
-    let found : fault_in text ≡ Some (record { line = c.in-Err-Fault.line; kind = c.in-Err-Fault.kind }) = search rules in
-    text_then Lights (fault_line c.args.name.now c.in-Err-Fault.line c.in-Err-Fault.kind) (text_of file_limit c.args.name.now) (next c.args.name.now c.args.seed) text _ _ _
-    c.in_ok-text.ensures.went (c.args.name.now, c.in-Err-Fault.line, c.in-Err-Fault.kind, refl) (ap (λ o. unless_faulty Lights c.args.name.now o (lights text c.args.seed)) found)
-    c.note_fault.ensures.noted c.note_fault.ensures.asked
+    let text : c.deref.result.now ≡ c.in_ok-text.text.items = search rules in
+    stopped_parsed (text_of file_limit c.args.name.now) (lights_text c.args.name.now c.args.seed) c.in_ok-text.text.items _ _ _ c.in_ok-text.ensures.went c.parse_lights.result (rw text at c.parse_lights.ensures.stopped)

@@ -1,0 +1,103 @@
+// Made scenes over a desk in memory.
+ghost use Rattle.std.specs.Prelude.{◌≡◌, ◌<◌};
+
+use crate::run;
+use lc_desk::{MemoryDesk, Slot};
+use lc_num::{Memory, Steps};
+use std::alloc::{AllocGlobal, Global};
+use std::marker::Brand;
+use std::process::Abort;
+use std::sync::ledger::{Blank, Ledger};
+use std::test::Fail;
+
+fn count<L: Ledger>(alloc: Global, words: &[&str], desk: &mut MemoryDesk, blank: Blank) -> u8
+    requires name { blank.name ≡ L.name }
+    requires parts { blank.parts ≡ L.parts }
+    requires some { 0 < blank.parts }
+{
+    run(alloc, words, desk, &mut Steps::<L>::start(blank))
+}
+
+fn serve(alloc: Global, words: &[&str], desk: &mut MemoryDesk) -> u8 {
+    count::<Brand>(alloc, words, desk, Blank::new(1))
+}
+
+/// Makes the scene of a number, whose line on Report begins so.
+fn expect_made(rt: &(impl Abort + AllocGlobal), number: &str, desk: &mut MemoryDesk, report: &str) {
+    let words = ["make", number];
+    assert_eq!(rt; serve(rt.alloc(), &words, desk), 0, "of {number}");
+    assert!(rt;
+        desk.told(Slot::Report).starts_with(report.as_bytes()),
+        "of {number}"
+    );
+    assert!(rt; desk.told(Slot::Report).ends_with(b"\n"));
+    assert!(rt; desk.told(Slot::Picture).starts_with(b"P6\n32 24\n255\n"));
+    assert_eq!(rt; desk.told(Slot::Picture).len(), 13 + 3 * 768);
+    assert!(rt;
+        desk.told(Slot::Bounds)
+            .starts_with(b"LCB 1 32 24 1 100 20\n")
+    );
+    assert_eq!(rt; lines(desk.told(Slot::Bounds)), 769);
+    assert_eq!(rt; desk.told(Slot::Note), b"".as_slice());
+}
+
+fn lines(text: &[u8]) -> usize {
+    text.iter().filter(|byte| **byte == b'\n').count()
+}
+
+/// The texts of some numbers are accepted, and twice the same is made of one.
+#[test]
+fn makes_scenes(rt: HostRuntime) -> Result<(), Fail> {
+    for (number, report) in [
+        ("0", "lights 1513 triangles 14 samples 768 cut "),
+        ("39", "lights 1552 triangles 482 samples 768 cut "),
+        ("007", "lights 1520 triangles 98 samples 768 cut "),
+    ] {
+        let mut first = MemoryDesk::new(rt.alloc());
+        let mut second = MemoryDesk::new(rt.alloc());
+        expect_made(&rt, number, &mut first, report);
+        expect_made(&rt, number, &mut second, report);
+        for slot in [Slot::Picture, Slot::Bounds, Slot::Report] {
+            assert!(rt; first.told(slot) == second.told(slot), "of {number}");
+        }
+    }
+    Ok(())
+}
+
+fn desk_with_texts(alloc: Global) -> Result<MemoryDesk, Memory> {
+    let made = lc_make::make(alloc, 3)?;
+    let mut desk = MemoryDesk::new(alloc);
+    desk.add("made.txt", made.job.as_slice())?;
+    desk.add("made.obj", made.obj.as_slice())?;
+    desk.add("made.mtl", made.mtl.as_slice())?;
+    desk.add("made.lights", made.lights.as_slice())?;
+    Ok(desk)
+}
+
+/// A render of the same texts gives the same picture and record.
+#[test]
+fn renders_made_texts(rt: HostRuntime) -> Result<(), Fail> {
+    let mut made = MemoryDesk::new(rt.alloc());
+    assert_eq!(rt; serve(rt.alloc(), &["make", "3"], &mut made), 0);
+    let mut desk = desk_with_texts(rt.alloc())?;
+    assert_eq!(rt; serve(rt.alloc(), &["render", "made.txt"], &mut desk), 0);
+    assert!(rt; desk.told(Slot::Picture) == made.told(Slot::Picture));
+    assert!(rt; desk.told(Slot::Bounds) == made.told(Slot::Bounds));
+    Ok(())
+}
+
+/// A refused put of the line on Report leaves the two files whole.
+#[test]
+fn tells_that_report_failed(rt: HostRuntime) -> Result<(), Fail> {
+    let mut made = MemoryDesk::new(rt.alloc());
+    assert_eq!(rt; serve(rt.alloc(), &["make", "0"], &mut made), 0);
+    let mut desk = MemoryDesk::new(rt.alloc());
+    // Two begins and two headers, a line for each of 768 samples and a row of pixels for each of 24 rows.
+    desk.fail(4 + 768 + 24 + 1, 5)?;
+    assert_eq!(rt; serve(rt.alloc(), &["make", "0"], &mut desk), 9);
+    assert_eq!(rt; desk.told(Slot::Report), b"light".as_slice());
+    assert_eq!(rt; desk.told(Slot::Note), b"report: write fault\n".as_slice());
+    assert!(rt; desk.told(Slot::Picture) == made.told(Slot::Picture));
+    assert!(rt; desk.told(Slot::Bounds) == made.told(Slot::Bounds));
+    Ok(())
+}

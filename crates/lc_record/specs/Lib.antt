@@ -1,2 +1,3 @@
 pub use Rattle.lc_num.specs.Channels
 pub mod Record
+pub mod Reading

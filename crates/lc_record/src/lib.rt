@@ -2,10 +2,16 @@
 #![tactic(auto)]
 
 mod head;
+mod kind;
 mod line;
+mod number;
+mod reader;
+mod stop;
 
 pub use head::{Header, header_text};
 pub use line::{Line, line_text};
+pub use reader::{Record, read_record};
+pub use stop::RecordStop;
 
 #[cfg(test)]
 mod tests;

@@ -1,0 +1,42 @@
+// Numbers at the front of a text.
+ghost use Rattle.std.specs.Prelude.{◌≡◌, ◌+◌, ◌^◌, ◌<◌, ◌≤◌, ◌++◌, IfSome, IfNone, MatchOption};
+ghost use Rattle.lc_record.specs.Reading.{Begins, IsWithin, ended};
+
+/// The value of a digit.
+fn digit(byte: u8) -> Option<u128>
+    ensures { MatchOption result ((48 ≤ byte) × (byte < 58) → ⊥) (λ value. (value < 10) × (byte ≡ 48 + value)) }
+{
+    if byte.is_ascii_digit() {
+        Some(u128::from(byte - b'0'))
+    } else {
+        None
+    }
+}
+
+/// The number from `least` to `most` that the bytes begin with, with `end` behind it, and the bytes after these. It is
+/// written without leading zeros.
+pub(crate) fn number(bytes: &[u8], least: u128, most: u128, end: u8) -> Option<(u128, &[u8])>
+    requires most { most < 2 ^ 117 }
+    requires end { end < 48 }
+    ensures found { IfSome result (λ read. IsWithin least most read.0 × (bytes.now ≡ ended end read.0 ++ read.1.now)) }
+    ensures none { IfNone result (Begins (IsWithin least most) (ended end) bytes.now → ⊥) }
+{
+    let (first, mut rest) = bytes.split_first()?;
+    let mut value = digit(*first)?;
+    while let Some((next, after)) = rest.split_first() {
+        if *next == end {
+            return if least <= value && value <= most {
+                Some((value, after))
+            } else {
+                None
+            };
+        }
+        let longer = value * 10 + digit(*next)?;
+        if value == 0 || longer > most {
+            return None;
+        }
+        value = longer;
+        rest = after;
+    }
+    None
+}

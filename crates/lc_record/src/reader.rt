@@ -1,5 +1,5 @@
 // A record read back from its text.
-ghost use Rattle.std.specs.Prelude.{◌≡◌, ◌*◌, ◌+◌, ◌-◌, ◌^◌, ◌<◌, ◌≤◌, ◌++◌, List as Items, Ok, IfOk, IfErr, IfSome, IfNone, length};
+ghost use Rattle.std.specs.Prelude.{◌≡◌, ◌*◌, ◌+◌, ◌-◌, ◌^◌, ◌<◌, ◌≤◌, ◌++◌, List as Items, Ok, IfOk, IfErr, IfSome, IfNone, codes, ◌≢◌, ℕ, length};
 ghost use Rattle.lc_num.specs.Channels.{IsRgbWithin};
 ghost use Rattle.lc_num.specs.Faults.{Fault};
 ghost use Rattle.lc_rated.specs.declared.answer.Answer.{Answer as AnswerValue};
@@ -27,13 +27,21 @@ pub struct Record {
     pub lines: List<Answer>,
 }
 
+/// The bytes after the name and the version of the format.
+fn after_mark(bytes: &[u8]) -> Option<&[u8]>
+    ensures found { IfSome result (λ rest. bytes.now ≡ codes "LCB 1 " ++ rest.now) }
+    ensures none { IfNone result ((rest : Items ℕ) → bytes.now ≢ codes "LCB 1 " ++ rest) }
+{
+    bytes.strip_prefix(b"LCB 1 ".as_slice())
+}
+
 /// The header that the bytes begin with, and the bytes after it.
 #[tactic(auto, unfolding(crate::specs::Record::header_bytes))]
 fn header_of(bytes: &[u8]) -> Option<(Header, &[u8])>
     ensures found { IfSome result (λ read. IsHeader read.0 × (bytes.now ≡ header_bytes read.0 ++ read.1.now)) }
     ensures none { IfNone result (Begins IsHeader header_bytes bytes.now → ⊥) }
 {
-    let rest = bytes.strip_prefix(b"LCB 1 ".as_slice())?;
+    let rest = after_mark(bytes)?;
     let (width, rest) = number(rest, 1, 4096, b' ')?;
     let (height, rest) = number(rest, 1, 4096, b' ')?;
     let (grid, rest) = number(rest, 1, 16, b' ')?;
@@ -130,6 +138,22 @@ fn lines_of(alloc: Global, header: &Header, bytes: &[u8]) -> Result<List<Answer>
     Ok(lines)
 }
 
+/// Reads a header and its lines.
+fn read(alloc: Global, bytes: &[u8]) -> Result<Record, RecordStop>
+    requires { length bytes.now ≤ 536_870_912 }
+    ensures ok { IfOk result (λ read. IsTextOf read.header read.lines bytes.now) }
+    ensures fault { IfErr result (λ stop. IsStop stop (IsFirstFault bytes.now)) }
+{
+    let Some((header, rest)) = header_of(bytes) else {
+        return Err(RecordStop::Fault {
+            line: 1,
+            kind: Kind::Header.number(),
+        });
+    };
+    let lines = lines_of(alloc, &header, rest)?;
+    Ok(Record { header, lines })
+}
+
 /// The record whose text these are, at most 512 MiB of bytes, or the first fault.
 pub fn read_record(alloc: Global, bytes: &[u8]) -> Result<Record, RecordStop>
     requires { length bytes.now ≤ 536_870_912 }
@@ -148,12 +172,5 @@ pub fn read_record(alloc: Global, bytes: &[u8]) -> Result<Record, RecordStop>
     ensures exact { (fault : Fault) → IsFirstFault bytes.now fault
         → OrMemory result (Err (RecordStop.Fault fault.line fault.kind)) }
 {
-    let Some((header, rest)) = header_of(bytes) else {
-        return Err(RecordStop::Fault {
-            line: 1,
-            kind: Kind::Header.number(),
-        });
-    };
-    let lines = lines_of(alloc, &header, rest)?;
-    Ok(Record { header, lines })
+    read(alloc, bytes)
 }

@@ -1,3 +1,5 @@
 pub mod Lengths
 pub mod Decimals
 pub mod Pieces
+pub mod LinesRead
+pub mod OneReading

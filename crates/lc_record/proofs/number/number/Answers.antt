@@ -1,4 +1,4 @@
-use Rattle.std.proofs.Common.{◌≡◌, ℕ, ◌+◌, ◌*◌, ◌<◌, List, ◌∷◌, ◌++◌, ◌∙◌, ap, sym, arith, decimal, inl, inr}
+use Rattle.std.proofs.Common.{ℕ, ◌+◌, ◌*◌, ◌<◌, List, ◌∷◌, ◌++◌, ◌∙◌, ap, sym, arith, decimal, inl, inr}
 use Rattle.std.proofs.lemmas.Fmt.{decimal_digit}
 use Rattle.lc_record.proofs.Decimals.{ends_at, first_digit, holds, longer, no_end, no_leading_zero, not_less}
 use Rattle.lc_record.proofs.number.number.Goals as goal

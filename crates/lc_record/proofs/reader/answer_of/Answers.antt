@@ -1,4 +1,4 @@
-use Rattle.std.proofs.Common.{◌≡◌, ℕ, ◌++◌, ◌∙◌, List, ap, sym, arith}
+use Rattle.std.proofs.Common.{ℕ, ◌++◌, ◌∙◌, List, ap, sym, arith}
 use Rattle.lc_record.specs.Reading.{colour, ended}
 use Rattle.lc_record.proofs.Pieces.{colours_same, from_bound, from_est, from_evals, line_parts, numbers_same}
 use Rattle.lc_record.proofs.reader.answer_of.Goals as goal

@@ -1,4 +1,4 @@
-use Rattle.std.proofs.Common.{◌≡◌, ◌++◌, ◌∙◌, arith}
+use Rattle.std.proofs.Common.{◌++◌, ◌∙◌, arith}
 use Rattle.lc_record.specs.Reading.{ended}
 use Rattle.lc_record.proofs.Pieces.{colour_parts, from_g, numbers_same}
 use Rattle.lc_record.proofs.reader.colour_of.Goals as goal

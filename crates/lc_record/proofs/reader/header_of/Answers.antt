@@ -1,4 +1,4 @@
-use Rattle.std.proofs.Common.{◌≡◌, ℕ, ◌++◌, ◌∙◌, List, ap, codes, sym, arith}
+use Rattle.std.proofs.Common.{ℕ, ◌++◌, ◌∙◌, List, ap, codes, sym, arith}
 use Rattle.std.proofs.lemmas.List.{append_cancel_left}
 use Rattle.lc_record.specs.Reading.{ended}
 use Rattle.lc_record.proofs.Pieces.{from_cut, from_grid, from_height, from_permille, from_width, header_parts, numbers_same}

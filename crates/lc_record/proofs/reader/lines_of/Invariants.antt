@@ -1,6 +1,4 @@
-use Rattle.std.proofs.Common.{◌≡◌, ◌++◌, length, flat_map}
-use Rattle.std.specs.Prelude.{All}
-use Rattle.lc_record.specs.Record.{IsSample, line_bytes}
+use Rattle.std.proofs.Common.{◌≡◌, length}
 use Rattle.lc_record.specs.Reading.{BeginsWithLines}
 use Rattle.lc_record.proofs.reader.lines_of.Given as goal
 

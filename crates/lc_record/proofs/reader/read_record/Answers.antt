@@ -1,0 +1,8 @@
+use Rattle.lc_record.proofs.OneReading.{exact, only}
+use Rattle.lc_record.proofs.reader.read_record.Goals as goal
+
+pub returns-clause-only : goal.returns-clause-only
+returns-clause-only c = only c.read.result c.args.bytes.now c.read.ensures.ok c.read.ensures.fault
+
+pub returns-clause-exact : goal.returns-clause-exact
+returns-clause-exact c = exact c.read.result c.args.bytes.now c.read.ensures.ok c.read.ensures.fault

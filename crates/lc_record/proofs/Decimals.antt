@@ -48,13 +48,13 @@ value_on-grows v (b ∷ bs) =
 value_on-decimal : (n : ℕ) → n < 10 ^ 64 → (x : List ℕ) → value_on 0 (decimal n ++ x) ≡ value_on n x
 value_on-decimal n small =
     decimal_by_steps_wide (λ n ds. (x : List ℕ) → value_on 0 (ds ++ x) ≡ value_on n x)
-      (λ n one x. value_on-digit 0 n x one ∙ ap (λ (v : ℕ). value_on v x) {x = 0 * 10 + n} {y = n} (omega arith))
-      (λ n ds ten before x.
-        ap (λ (bs : List ℕ). value_on 0 bs) (append_assoc ds ((48 + n % 10) ∷ []) x)
-        ∙ before ((48 + n % 10) ∷ x)
-        ∙ value_on-digit (n / 10) (n % 10) x (omega arith)
-        ∙ ap (λ (v : ℕ). value_on v x) {x = n / 10 * 10 + n % 10} {y = n} (omega arith))
-      n small
+    (λ n one x. value_on-digit 0 n x one ∙ ap (λ (v : ℕ). value_on v x) {x = 0 * 10 + n} {y = n} (omega arith))
+    (λ n ds ten before x.
+    ap (λ (bs : List ℕ). value_on 0 bs) (append_assoc ds ((48 + n % 10) ∷ []) x)
+    ∙ before ((48 + n % 10) ∷ x)
+    ∙ value_on-digit (n / 10) (n % 10) x (omega arith)
+    ∙ ap (λ (v : ℕ). value_on v x) {x = n / 10 * 10 + n % 10} {y = n} (omega arith))
+    n small
 
 -- a number that begins with a 0 is no more than that
 record Starts (n : ℕ) (ds : List ℕ) : Type 0 where
@@ -67,15 +67,15 @@ record Starts (n : ℕ) (ds : List ℕ) : Type 0 where
 starts : (n : ℕ) → n < 10 ^ 64 → Starts n (decimal n)
 starts n small =
     decimal_by_steps_wide (λ n ds. Starts n ds)
-      (λ n one. record { first = n; others = []; is = refl; small = one; zero_alone = λ e. (e, refl) })
-      (λ n ds ten before. record {
-        first = before.first;
-        others = before.others ++ (48 + n % 10) ∷ [];
-        is = ap (λ (bs : List ℕ). bs ++ (48 + n % 10) ∷ []) before.is;
-        small = before.small;
-        zero_alone = λ e. absurd (let gone : n / 10 ≡ 0 = (before.zero_alone e).0 in omega arith)
-      })
-      n small
+    (λ n one. record { first = n; others = []; is = refl; small = one; zero_alone = λ e. (e, refl) })
+    (λ n ds ten before. record {
+      first = before.first;
+      others = before.others ++ (48 + n % 10) ∷ [];
+      is = ap (λ (bs : List ℕ). bs ++ (48 + n % 10) ∷ []) before.is;
+      small = before.small;
+      zero_alone = λ e. absurd (let gone : n / 10 ≡ 0 = (before.zero_alone e).0 in omega arith);
+    })
+    n small
 
 -- a text that begins with a number and a byte that ends it
 pub record Holds (n end : ℕ) (after bytes : List ℕ) : Type 0 where
@@ -128,10 +128,10 @@ module _ (n end : ℕ) (after bytes : List ℕ) (h : Holds n end after bytes) wh
   no_leading_zero v d x nothing e =
       let s : Starts n (decimal n) = starts n h.small in
       let zeros : decimal v ++ (48 + d) ∷ x ≡ 48 ∷ (48 + d) ∷ x =
-            ap (λ (m : ℕ). decimal m ++ (48 + d) ∷ x) nothing
-            ∙ ap (λ (ds : List ℕ). ds ++ (48 + d) ∷ x) (decimal_digit 0 (omega arith)) in
+      ap (λ (m : ℕ). decimal m ++ (48 + d) ∷ x) nothing
+      ∙ ap (λ (ds : List ℕ). ds ++ (48 + d) ∷ x) (decimal_digit 0 (omega arith)) in
       let heads : 48 ∷ (48 + d) ∷ x ≡ (48 + s.first) ∷ (s.others ++ end ∷ after) =
-            sym zeros ∙ sym e ∙ h.text ∙ ap (λ (ds : List ℕ). ds ++ end ∷ after) s.is in
+      sym zeros ∙ sym e ∙ h.text ∙ ap (λ (ds : List ℕ). ds ++ end ∷ after) s.is in
       let head : 48 ≡ 48 + s.first = cc in
       let alone : s.others ≡ [] = (s.zero_alone (omega (arith, head))).1 in
       let tails : (48 + d) ∷ x ≡ s.others ++ end ∷ after = cc in
@@ -145,7 +145,7 @@ longer v d x small above below =
     let front : (v * 10 + d) / 10 ≡ v = omega arith in
     let last : (v * 10 + d) % 10 ≡ d = omega arith in
     let step : decimal (v * 10 + d) ≡ decimal v ++ (48 + d) ∷ [] =
-          decimal_step_wide (v * 10 + d) (omega arith) (omega arith)
-          ∙ ap (λ (m : ℕ). decimal m ++ (48 + (v * 10 + d) % 10) ∷ []) front
-          ∙ ap (λ (m : ℕ). decimal v ++ (48 + m) ∷ []) last in
+    decimal_step_wide (v * 10 + d) (omega arith) (omega arith)
+    ∙ ap (λ (m : ℕ). decimal m ++ (48 + (v * 10 + d) % 10) ∷ []) front
+    ∙ ap (λ (m : ℕ). decimal v ++ (48 + m) ∷ []) last in
     sym (ap (λ (ds : List ℕ). ds ++ x) step ∙ append_assoc (decimal v) ((48 + d) ∷ []) x)

@@ -36,8 +36,8 @@ module _ (h : Header) (answers : List Answer) (rest bytes : List ℕ) (begins : 
   more a after valid e = record {
     valid = All-push (IsSample h.cut) answers a begins.valid valid;
     lines =
-      begins.lines ∙ ap (λ (r : List ℕ). flat_map line_bytes answers ++ r) e ∙ sym (append_assoc (flat_map line_bytes answers) (line_bytes a) after)
-      ∙ ap (λ (front : List ℕ). front ++ after) (flat_map_more line_bytes [] answers a)
+        begins.lines ∙ ap (λ (r : List ℕ). flat_map line_bytes answers ++ r) e ∙ sym (append_assoc (flat_map line_bytes answers) (line_bytes a) after)
+        ∙ ap (λ (front : List ℕ). front ++ after) (flat_map_more line_bytes [] answers a);
   }
 
   -- where they end
@@ -51,7 +51,7 @@ module _ (h : Header) (answers : List Answer) (rest bytes : List ℕ) (begins : 
         ends answers (subst (λ (r : List ℕ). BeginsWithLines h answers r bytes) empty begins) (omega arith) (fault_is k kind.Count is)
 
     pub differs_here : (k : Kind) → k ≡ kind.Line → at < samples h → false ≡ (length rest == 0) → (Begins (IsSample h.cut) line_bytes rest → ⊥)
-      → IsLineFault h bytes (fault_after at k)
+        → IsLineFault h bytes (fault_after at k)
     differs_here k is below some none =
         differs answers rest begins (omega arith) (not_nil rest some) none (fault_is k kind.Line is)
 

@@ -25,9 +25,9 @@ record IsLongest (h : Header) (answers : List Answer) (rest bytes : List ℕ) : 
 module _ (h : Header) (few : h.cut ≤ 65_536) where
   -- the longest run of lines from some line on is one
   same : (k : ℕ) (xs ys : List Answer) (x y : List ℕ) → All (IsSample h.cut) xs → All (IsSample h.cut) ys
-    → k + length xs ≤ samples h → k + length ys ≤ samples h
-    → (k + length xs < samples h → Begins (IsSample h.cut) line_bytes x → ⊥) → (k + length ys < samples h → Begins (IsSample h.cut) line_bytes y → ⊥)
-    → flat_map line_bytes xs ++ x ≡ flat_map line_bytes ys ++ y → (xs ≡ ys) × (x ≡ y)
+      → k + length xs ≤ samples h → k + length ys ≤ samples h
+      → (k + length xs < samples h → Begins (IsSample h.cut) line_bytes x → ⊥) → (k + length ys < samples h → Begins (IsSample h.cut) line_bytes y → ⊥)
+      → flat_map line_bytes xs ++ x ≡ flat_map line_bytes ys ++ y → (xs ≡ ys) × (x ≡ y)
   same k [] [] x y v w m n p q e = (refl, e)
   same k [] (b ∷ ys) x y v w m n p q e =
       absurd (p (omega arith) (b, flat_map line_bytes ys ++ y, All-head (IsSample h.cut) b ys w, e ∙ append_assoc (line_bytes b) (flat_map line_bytes ys) y))
@@ -35,15 +35,15 @@ module _ (h : Header) (few : h.cut ≤ 65_536) where
       absurd (q (omega arith) (a, flat_map line_bytes xs ++ x, All-head (IsSample h.cut) a xs v, sym e ∙ append_assoc (line_bytes a) (flat_map line_bytes xs) x))
   same k (a ∷ xs) (b ∷ ys) x y v w m n p q e =
       let first = lines_same h.cut a b (flat_map line_bytes xs ++ x) (flat_map line_bytes ys ++ y) few (All-head (IsSample h.cut) a xs v) (All-head (IsSample h.cut) b ys w)
-            (sym (append_assoc (line_bytes a) (flat_map line_bytes xs) x) ∙ e ∙ append_assoc (line_bytes b) (flat_map line_bytes ys) y) in
+      (sym (append_assoc (line_bytes a) (flat_map line_bytes xs) x) ∙ e ∙ append_assoc (line_bytes b) (flat_map line_bytes ys) y) in
       let others = same (k + 1) xs ys x y (All-tail (IsSample h.cut) a xs v) (All-tail (IsSample h.cut) b ys w) (omega arith) (omega arith)
-            (λ below. p (omega arith)) (λ below. q (omega arith)) first.1 in
+      (λ below. p (omega arith)) (λ below. q (omega arith)) first.1 in
       (ap (λ (c : Answer). c ∷ xs) first.0 ∙ ap (λ (cs : List Answer). b ∷ cs) others.0, others.1)
 
   longest_same : (xs ys : List Answer) (x y bytes : List ℕ) → IsLongest h xs x bytes → IsLongest h ys y bytes → (xs ≡ ys) × (x ≡ y)
   longest_same xs ys x y bytes l m =
       same 0 xs ys x y l.begins.valid m.begins.valid (omega (arith, l.within)) (omega (arith, m.within))
-        (λ below. l.no_more (omega arith)) (λ below. m.no_more (omega arith)) (sym l.begins.lines ∙ m.begins.lines)
+      (λ below. l.no_more (omega arith)) (λ below. m.no_more (omega arith)) (sym l.begins.lines ∙ m.begins.lines)
 
 no_line : (cut : ℕ) → Begins (IsSample cut) line_bytes [] → ⊥
 no_line cut (a, rest, valid, e) =
@@ -53,7 +53,7 @@ text_longest : (h : Header) (answers : List Answer) (bytes : List ℕ) → AreLi
 text_longest h answers bytes t = record {
   begins = record { valid = t.valid; lines = t.lines ∙ sym (append-nil (flat_map line_bytes answers)) };
   within = omega (arith, t.count);
-  no_more = λ below. no_line h.cut
+  no_more = λ below. no_line h.cut;
 }
 
 -- the kind of the fault where k of n lines stand
@@ -89,21 +89,21 @@ ends_at h bytes fault (differs answers rest begins below some none is) = record 
   rest = rest;
   longest = record { begins = begins; within = omega arith; no_more = λ _. none };
   incomplete = λ empty _. some empty;
-  is = is ∙ ap (λ (k : Kind). fault_after (length answers) k) (sym (kind_differs (samples h) (length answers) rest some below))
+  is = is ∙ ap (λ (k : Kind). fault_after (length answers) k) (sym (kind_differs (samples h) (length answers) rest some below));
 }
 ends_at h bytes fault (ends answers begins below is) = record {
   answers = answers;
   rest = [];
   longest = record { begins = begins; within = omega arith; no_more = λ _. no_line h.cut };
   incomplete = λ _ all. omega arith;
-  is = is ∙ ap (λ (k : Kind). fault_after (length answers) k) (sym (kind_ends (samples h) (length answers)))
+  is = is ∙ ap (λ (k : Kind). fault_after (length answers) k) (sym (kind_ends (samples h) (length answers)));
 }
 ends_at h bytes fault (goes_on answers rest begins all some is) = record {
   answers = answers;
   rest = rest;
   longest = record { begins = begins; within = omega arith; no_more = λ below. absurd (omega arith) };
   incomplete = λ empty _. some empty;
-  is = is ∙ ap (λ (k : Kind). fault_after (length answers) k) (sym (kind_goes_on (samples h) (length answers) rest all))
+  is = is ∙ ap (λ (k : Kind). fault_after (length answers) k) (sym (kind_goes_on (samples h) (length answers) rest all));
 }
 
 line_fault_same : (h : Header) (bytes : List ℕ) (f g : Fault) → h.cut ≤ 65_536 → IsLineFault h bytes f → IsLineFault h bytes g → f ≡ g
@@ -130,7 +130,7 @@ text_of h answers rest bytes valid begins t = record {
   header = valid;
   valid = t.valid;
   count = t.count;
-  whole = begins ∙ ap (λ (r : List ℕ). header_bytes h ++ r) t.lines
+  whole = begins ∙ ap (λ (r : List ℕ). header_bytes h ++ r) t.lines;
 }
 
 -- a fault of the lines after a header is the first one
@@ -161,7 +161,7 @@ text_or_fault h answers bytes f t (no_header none e) = none (h, flat_map line_by
 text_or_fault h answers bytes f t (after_header k rest valid begins fault) =
     let one = headers_same h k (flat_map line_bytes answers) rest t.header valid (sym (lines_of_text h answers bytes t) ∙ begins) in
     let here : AreLinesOf k answers rest =
-          subst (λ (r : List ℕ). AreLinesOf k answers r) one.1 (subst (λ (i : Header). AreLinesOf i answers (flat_map line_bytes answers)) one.0 (after_text h answers bytes t)) in
+    subst (λ (r : List ℕ). AreLinesOf k answers r) one.1 (subst (λ (i : Header). AreLinesOf i answers (flat_map line_bytes answers)) one.0 (after_text h answers bytes t)) in
     lines_or_fault k answers rest f (omega (arith, valid.cut)) here fault
 
 -- it is the text of one record
@@ -169,7 +169,7 @@ pub text_same : (h k : Header) (xs ys : List Answer) (bytes : List ℕ) → IsTe
 text_same h k xs ys bytes t u =
     let one = headers_same h k (flat_map line_bytes xs) (flat_map line_bytes ys) t.header u.header (sym (lines_of_text h xs bytes t) ∙ lines_of_text k ys bytes u) in
     let here : AreLinesOf k xs (flat_map line_bytes ys) =
-          subst (λ (r : List ℕ). AreLinesOf k xs r) one.1 (subst (λ (i : Header). AreLinesOf i xs (flat_map line_bytes xs)) one.0 (after_text h xs bytes t)) in
+    subst (λ (r : List ℕ). AreLinesOf k xs r) one.1 (subst (λ (i : Header). AreLinesOf i xs (flat_map line_bytes xs)) one.0 (after_text h xs bytes t)) in
     (one.0, (longest_same k (omega (arith, u.header.cut)) xs ys [] [] (flat_map line_bytes ys) (text_longest k xs _ here) (text_longest k ys _ (after_text k ys bytes u))).0)
 
 abbrev read_of : Header → List Answer → Result Record RecordStop
@@ -180,7 +180,7 @@ fault_answer f = Err (stop.Fault f.line f.kind)
 
 -- so an answer that is right is the only one
 pub only : (result : Result Record RecordStop) (bytes : List ℕ) → IfOk result (λ read. IsTextOf read.header read.lines bytes) → IfErr result (λ stop. IsStop stop (IsFirstFault bytes))
-  → (h : Header) (answers : List Answer) → IsTextOf h answers bytes → OrMemory result (Ok (record { header = h; lines = answers }))
+    → (h : Header) (answers : List Answer) → IsTextOf h answers bytes → OrMemory result (Ok (record { header = h; lines = answers }))
 only (Ok read) bytes ok fault h answers t =
     let one = text_same read.header h read.lines answers bytes ok t in
     inl (ap (λ (i : Header). read_of i read.lines) one.0 ∙ ap (λ (xs : List Answer). read_of h xs) one.1)
@@ -188,7 +188,7 @@ only (Err stop.Memory) bytes ok fault h answers t = inr refl
 only (Err (stop.Fault line kind)) bytes ok fault h answers t = absurd (text_or_fault h answers bytes _ t fault)
 
 pub exact : (result : Result Record RecordStop) (bytes : List ℕ) → IfOk result (λ read. IsTextOf read.header read.lines bytes) → IfErr result (λ stop. IsStop stop (IsFirstFault bytes))
-  → (f : Fault) → IsFirstFault bytes f → OrMemory result (Err (stop.Fault f.line f.kind))
+    → (f : Fault) → IsFirstFault bytes f → OrMemory result (Err (stop.Fault f.line f.kind))
 exact (Ok read) bytes ok fault f t = absurd (text_or_fault read.header read.lines bytes f ok t)
 exact (Err stop.Memory) bytes ok fault f t = inr refl
 exact (Err (stop.Fault line kind)) bytes ok fault f t = inl (ap (λ (g : Fault). fault_answer g) (fault_same bytes _ f fault t))

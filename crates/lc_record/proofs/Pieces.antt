@@ -27,7 +27,7 @@ abbrev rgb : ℕ → ℕ → ℕ → Rgb
 rgb r g b = record { r = r; g = g; b = b }
 
 pub colours_same : (end : ℕ) (c d : Rgb) (x y bytes : List ℕ) → end < 48 → IsRgbWithin (2 ^ 117 - 1) c → IsRgbWithin (2 ^ 117 - 1) d
-  → bytes ≡ colour end c ++ x → bytes ≡ colour end d ++ y → (c ≡ d) × (x ≡ y)
+    → bytes ≡ colour end c ++ x → bytes ≡ colour end d ++ y → (c ≡ d) × (x ≡ y)
 colours_same end c d x y bytes stops v w e f =
     let r = numbers_same 32 c.r d.r _ _ bytes (omega arith) (omega (arith, v.r)) (omega (arith, w.r)) (e ∙ colour_parts end c x) (f ∙ colour_parts end d y) in
     let g = numbers_same 32 c.g d.g _ _ (from_g end c x) (omega arith) (omega (arith, v.g)) (omega (arith, w.g)) refl r.1 in
@@ -53,15 +53,17 @@ answer size evals est bound = record { size = size; evals = evals; est = est; bo
 
 -- one text begins with one line
 pub lines_same : (cut : ℕ) (a b : Answer) (x y : List ℕ) → cut ≤ 65_536 → IsSample cut a → IsSample cut b
-  → line_bytes a ++ x ≡ line_bytes b ++ y → (a ≡ b) × (x ≡ y)
+    → line_bytes a ++ x ≡ line_bytes b ++ y → (a ≡ b) × (x ≡ y)
 lines_same cut a b x y few v w e =
     let whole = sym (line_parts a x) ∙ e ∙ line_parts b y in
     let size = numbers_same 32 a.size b.size (from_evals a x) (from_evals b y) _ (omega arith) (omega (arith, v.size)) (omega (arith, w.size)) refl whole in
     let evals = numbers_same 32 a.evals b.evals (from_est a x) (from_est b y) _ (omega arith) (omega (arith, v.evals)) (omega (arith, w.evals)) refl size.1 in
     let est = colours_same 32 a.est b.est (from_bound a x) (from_bound b y) _ (omega arith) v.est w.est refl evals.1 in
-    let bound = colours_same 10 a.bound b.bound x y _ (omega arith) v.bound w.bound refl est.1 in
-    (ap (λ n. answer n a.evals a.est a.bound) size.0 ∙ ap (λ n. answer b.size n a.est a.bound) evals.0
-     ∙ ap (λ c. answer b.size b.evals c a.bound) est.0 ∙ ap (λ c. answer b.size b.evals b.est c) bound.0, bound.1)
+    let bound = colours_same 10 a.bound b.bound x y _ (omega arith) v.bound w.bound refl est.1 in (
+      ap (λ n. answer n a.evals a.est a.bound) size.0 ∙ ap (λ n. answer b.size n a.est a.bound) evals.0
+          ∙ ap (λ c. answer b.size b.evals c a.bound) est.0 ∙ ap (λ c. answer b.size b.evals b.est c) bound.0,
+      bound.1,
+    )
 
 -- what follows the mark, the columns, the rows, the grid and the cut of a header
 abbrev pub from_permille : Header → List ℕ → List ℕ
@@ -94,7 +96,9 @@ headers_same h k x y v w e =
     let height = numbers_same 32 h.height k.height (from_grid h x) (from_grid k y) _ (omega arith) (omega (arith, v.height)) (omega (arith, w.height)) refl width.1 in
     let grid = numbers_same 32 h.grid k.grid (from_cut h x) (from_cut k y) _ (omega arith) (omega (arith, v.grid)) (omega (arith, w.grid)) refl height.1 in
     let cut = numbers_same 32 h.cut k.cut (from_permille h x) (from_permille k y) _ (omega arith) (omega (arith, v.cut)) (omega (arith, w.cut)) refl grid.1 in
-    let permille = numbers_same 10 h.permille k.permille x y _ (omega arith) (omega (arith, v.permille)) (omega (arith, w.permille)) refl cut.1 in
-    (ap (λ n. header n h.height h.grid h.cut h.permille) width.0 ∙ ap (λ n. header k.width n h.grid h.cut h.permille) height.0
-     ∙ ap (λ n. header k.width k.height n h.cut h.permille) grid.0 ∙ ap (λ n. header k.width k.height k.grid n h.permille) cut.0
-     ∙ ap (λ n. header k.width k.height k.grid k.cut n) permille.0, permille.1)
+    let permille = numbers_same 10 h.permille k.permille x y _ (omega arith) (omega (arith, v.permille)) (omega (arith, w.permille)) refl cut.1 in (
+      ap (λ n. header n h.height h.grid h.cut h.permille) width.0 ∙ ap (λ n. header k.width n h.grid h.cut h.permille) height.0
+          ∙ ap (λ n. header k.width k.height n h.cut h.permille) grid.0 ∙ ap (λ n. header k.width k.height k.grid n h.permille) cut.0
+          ∙ ap (λ n. header k.width k.height k.grid k.cut n) permille.0,
+      permille.1,
+    )

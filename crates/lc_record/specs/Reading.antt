@@ -61,13 +61,13 @@ fault_after lines kind = record { line = lines + 2; kind = kind_number kind }
 pub data IsLineFault (h : Header) (bytes : List ℕ) (fault : Fault) : Type 0 where
   -- what stands in the place of a line is no line of a sample
   differs : (answers : List Answer) (rest : List ℕ) → BeginsWithLines h answers rest bytes → length answers < samples h → rest ≢ []
-    → (Begins (IsSample h.cut) line_bytes rest → ⊥) → fault ≡ fault_after (length answers) kind.Line → IsLineFault h bytes fault
+      → (Begins (IsSample h.cut) line_bytes rest → ⊥) → fault ≡ fault_after (length answers) kind.Line → IsLineFault h bytes fault
   -- the bytes end before a line that should stand
   ends : (answers : List Answer) → BeginsWithLines h answers [] bytes → length answers < samples h
-    → fault ≡ fault_after (length answers) kind.Count → IsLineFault h bytes fault
+      → fault ≡ fault_after (length answers) kind.Count → IsLineFault h bytes fault
   -- the bytes go on after the last line
   goes_on : (answers : List Answer) (rest : List ℕ) → BeginsWithLines h answers rest bytes → length answers ≡ samples h → rest ≢ []
-    → fault ≡ fault_after (length answers) kind.Count → IsLineFault h bytes fault
+      → fault ≡ fault_after (length answers) kind.Count → IsLineFault h bytes fault
 
 -- the first fault of the bytes
 pub data IsFirstFault (bytes : List ℕ) (fault : Fault) : Type 0 where

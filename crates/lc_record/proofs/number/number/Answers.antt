@@ -13,9 +13,9 @@ loop-next-init c =
     let d = c.in_ok-value in
     record {
       text =
-        c.in_ok-first.ensures.cases.0 ∙ ap (λ (b : ℕ). b ∷ c.in_ok-first.rest.now) d.ensures.1
-        ∙ ap (λ (ds : List ℕ). ds ++ c.in_ok-first.rest.now) (sym (decimal_digit d.value d.ensures.0));
-      small = omega (arith, d.ensures.0)
+          c.in_ok-first.ensures.cases.0 ∙ ap (λ (b : ℕ). b ∷ c.in_ok-first.rest.now) d.ensures.1
+          ∙ ap (λ (ds : List ℕ). ds ++ c.in_ok-first.rest.now) (sym (decimal_digit d.value d.ensures.0));
+      small = omega (arith, d.ensures.0);
     }
 
 pub returns-else-least-value-clause-none : goal.returns-else-least-value-clause-none
@@ -24,7 +24,7 @@ returns-else-least-value-clause-none c (n, after, within, e) =
     let i = c.loop-next.invariant in
     let text = i.text ∙ ap (λ (r : List ℕ). decimal c.loop-next.value ++ r) c.in-Some.ensures.cases.0 in
     let same = ends_at n c.args.end after c.args.bytes.now h c.loop-next.value c.in-Some.next.now c.in-Some.after.now (omega (arith, i.small)) text
-          (λ digit. omega (arith, c.requires.end, c.if-next-end.true, digit.0)) in
+    (λ digit. omega (arith, c.requires.end, c.if-next-end.true, digit.0)) in
     elim c.else-least-value.either [
       | inl x ↦ omega (arith, same.0, within, x)
       | inr y ↦ omega (arith, same.0, within, y)
@@ -36,7 +36,7 @@ returns-in_err-longer-clause-none c = rw c.from_residual-in_err-longer.ensures (
     let i = c.loop-next.invariant in
     let text = i.text ∙ ap (λ (r : List ℕ). decimal c.loop-next.value ++ r) c.in-Some.ensures.cases.0 in
     let same = ends_at n c.args.end after c.args.bytes.now h c.loop-next.value c.in-Some.next.now c.in-Some.after.now (omega (arith, i.small)) text
-          c.in_err-longer.ensures in
+    c.in_err-longer.ensures in
     c.if-next-end.false same.1)
 
 pub returns-then-value-eq0-clause-none : goal.returns-then-value-eq0-clause-none
@@ -46,15 +46,15 @@ returns-then-value-eq0-clause-none c (n, after, within, e) =
     let v = c.loop-next.value in
     let d = c.in_ok-longer.field-0 in
     let text =
-          i.text ∙ ap (λ (r : List ℕ). decimal v ++ r) c.in-Some.ensures.cases.0
-          ∙ ap (λ (b : ℕ). decimal v ++ b ∷ c.in-Some.after.now) c.in_ok-longer.ensures.1 in
+    i.text ∙ ap (λ (r : List ℕ). decimal v ++ r) c.in-Some.ensures.cases.0
+    ∙ ap (λ (b : ℕ). decimal v ++ b ∷ c.in-Some.after.now) c.in_ok-longer.ensures.1 in
     elim c.then-value-eq0.either [
       | inl nothing ↦ no_leading_zero n c.args.end after c.args.bytes.now h v d c.in-Some.after.now nothing text
       | inr more ↦
-        let above : 0 < v = omega (arith, more.0) in
-        let least = not_less n c.args.end after c.args.bytes.now h (v * 10 + d) c.in-Some.after.now (omega (arith, i.small, c.in_ok-longer.ensures.0))
-              (text ∙ longer v d c.in-Some.after.now c.in_ok-longer.ensures.0 above i.small) in
-        omega (arith, least, more.1, within)
+          let above : 0 < v = omega (arith, more.0) in
+          let least = not_less n c.args.end after c.args.bytes.now h (v * 10 + d) c.in-Some.after.now (omega (arith, i.small, c.in_ok-longer.ensures.0))
+          (text ∙ longer v d c.in-Some.after.now c.in_ok-longer.ensures.0 above i.small) in
+          omega (arith, least, more.1, within)
     ]
 
 pub loop-next-preserved : goal.loop-next-preserved
@@ -63,11 +63,11 @@ loop-next-preserved c =
     let v = c.loop-next.value in
     let d = c.in_ok-longer.field-0 in
     let text =
-          i.text ∙ ap (λ (r : List ℕ). decimal v ++ r) c.in-Some.ensures.cases.0
-          ∙ ap (λ (b : ℕ). decimal v ++ b ∷ c.in-Some.after.now) c.in_ok-longer.ensures.1 in
+    i.text ∙ ap (λ (r : List ℕ). decimal v ++ r) c.in-Some.ensures.cases.0
+    ∙ ap (λ (b : ℕ). decimal v ++ b ∷ c.in-Some.after.now) c.in_ok-longer.ensures.1 in
     record {
       text = text ∙ longer v d c.in-Some.after.now c.in_ok-longer.ensures.0 (omega (arith, c.if-value-eq0.false)) i.small;
-      small = omega arith
+      small = omega arith;
     }
 
 pub returns-clause-none : goal.returns-clause-none

@@ -36,8 +36,9 @@ returns-clause-found c =
     let size = c.in_ok-size.ensures.found in
     let evals = c.in_ok-evals.ensures.found in
     let est = c.in_ok-est.ensures.found in
-    let bound = c.in_ok-bound.ensures.found in
-    (record { size = omega (arith, size.0, cut); evals = omega (arith, evals.0, cut); est = est.0; bound = bound.0 },
-     size.1 ∙ ap (λ (x : List ℕ). ended 32 c.in_ok-size.size ++ x) (evals.1 ∙ ap (λ (x : List ℕ). ended 32 c.in_ok-evals.evals ++ x)
-       (est.1 ∙ ap (λ (x : List ℕ). colour 32 c.in_ok-est.est ++ x) bound.1))
-     ∙ sym (line_parts (record { size = c.in_ok-size.size; evals = c.in_ok-evals.evals; est = c.in_ok-est.est; bound = c.in_ok-bound.bound }) c.in_ok-bound.rest.now))
+    let bound = c.in_ok-bound.ensures.found in (
+      record { size = omega (arith, size.0, cut); evals = omega (arith, evals.0, cut); est = est.0; bound = bound.0 },
+      size.1 ∙ ap (λ (x : List ℕ). ended 32 c.in_ok-size.size ++ x) (evals.1 ∙ ap (λ (x : List ℕ). ended 32 c.in_ok-evals.evals ++ x)
+          (est.1 ∙ ap (λ (x : List ℕ). colour 32 c.in_ok-est.est ++ x) bound.1))
+          ∙ sym (line_parts (record { size = c.in_ok-size.size; evals = c.in_ok-evals.evals; est = c.in_ok-est.est; bound = c.in_ok-bound.bound }) c.in_ok-bound.rest.now),
+    )

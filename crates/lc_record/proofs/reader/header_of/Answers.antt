@@ -55,9 +55,10 @@ returns-clause-found c =
     let height = c.in_ok-height.ensures.found in
     let grid = c.in_ok-grid.ensures.found in
     let cut = c.in_ok-cut.ensures.found in
-    let permille = c.in_ok-permille.ensures.found in
-    (record { width = width.0; height = height.0; grid = grid.0; cut = cut.0; permille = permille.0.1 },
-     c.in_ok-rest.ensures.found ∙ ap (λ (x : List ℕ). codes "LCB 1 " ++ x) (width.1 ∙ ap (λ (x : List ℕ). ended 32 c.in_ok-width.width ++ x)
-       (height.1 ∙ ap (λ (x : List ℕ). ended 32 c.in_ok-height.height ++ x) (grid.1 ∙ ap (λ (x : List ℕ). ended 32 c.in_ok-grid.grid ++ x)
-       (cut.1 ∙ ap (λ (x : List ℕ). ended 32 c.in_ok-cut.cut ++ x) permille.1))))
-     ∙ sym (header_parts (record { width = c.in_ok-width.width; height = c.in_ok-height.height; grid = c.in_ok-grid.grid; cut = c.in_ok-cut.cut; permille = c.in_ok-permille.permille }) c.in_ok-permille.rest.now))
+    let permille = c.in_ok-permille.ensures.found in (
+      record { width = width.0; height = height.0; grid = grid.0; cut = cut.0; permille = permille.0.1 },
+      c.in_ok-rest.ensures.found ∙ ap (λ (x : List ℕ). codes "LCB 1 " ++ x) (width.1 ∙ ap (λ (x : List ℕ). ended 32 c.in_ok-width.width ++ x)
+          (height.1 ∙ ap (λ (x : List ℕ). ended 32 c.in_ok-height.height ++ x) (grid.1 ∙ ap (λ (x : List ℕ). ended 32 c.in_ok-grid.grid ++ x)
+          (cut.1 ∙ ap (λ (x : List ℕ). ended 32 c.in_ok-cut.cut ++ x) permille.1))))
+          ∙ sym (header_parts (record { width = c.in_ok-width.width; height = c.in_ok-height.height; grid = c.in_ok-grid.grid; cut = c.in_ok-cut.cut; permille = c.in_ok-permille.permille }) c.in_ok-permille.rest.now),
+    )

@@ -14,10 +14,10 @@ returns-in_default-clause-fault c =
     rw c.fault_after.ensures
     (elim c.if-is_empty.branch [
       | then-is_empty w ↦
-        ends_here c.args.header.now c.loop-before.lines c.loop-before.rest.now c.args.bytes.now i.begins c.loop-before.before i.count c.if-is_empty.kind w.kind-is
+          ends_here c.args.header.now c.loop-before.lines c.loop-before.rest.now c.args.bytes.now i.begins c.loop-before.before i.count c.if-is_empty.kind w.kind-is
           (omega (arith, c.loop-before-test.true, c.samples-count.ensures)) w.if-is_empty.ensures
       | else-is_empty w ↦
-        differs_here c.args.header.now c.loop-before.lines c.loop-before.rest.now c.args.bytes.now i.begins c.loop-before.before i.count c.if-is_empty.kind w.kind-is
+          differs_here c.args.header.now c.loop-before.lines c.loop-before.rest.now c.args.bytes.now i.begins c.loop-before.before i.count c.if-is_empty.kind w.kind-is
           (omega (arith, c.loop-before-test.true, c.samples-count.ensures)) w.if-is_empty.ensures c.in_default.ensures.none
     ])
 
@@ -27,7 +27,7 @@ loop-before-preserved c =
     let found = c.in-Some.ensures.found in
     record {
       begins = rw c.in_ok-push.ensures.ok (more c.args.header.now c.loop-before.lines c.loop-before.rest.now c.args.bytes.now i.begins c.in-Some.answer c.in-Some.after.now found.0 found.1);
-      count = rw c.in_ok-push.ensures.ok (omega (arith, i.count, length-append c.loop-before.lines (c.in-Some.answer ∷ [])))
+      count = rw c.in_ok-push.ensures.ok (omega (arith, i.count, length-append c.loop-before.lines (c.in-Some.answer ∷ [])));
     }
 
 pub fault_after-requires-then-not-is_empty : goal.fault_after-requires-then-not-is_empty
@@ -40,4 +40,4 @@ returns-then-not-is_empty-clause-fault c =
     let i = c.loop-before.invariant in
     rw c.fault_after-then-not-is_empty.ensures
     (goes_on_here c.args.header.now c.loop-before.lines c.loop-before.rest.now c.args.bytes.now i.begins c.samples-count.result (omega (arith, i.count, c.loop-before.auto.before-end, c.loop-before-test.false))
-      c.samples-count.ensures c.if-not-is_empty.ensures)
+    c.samples-count.ensures c.if-not-is_empty.ensures)

@@ -6,5 +6,5 @@ use Rattle.lc_record.proofs.reader.lines_of.Given as goal
 abbrev pub invariant-loop-before : goal.invariant-loop-before
 invariant-loop-before l = record {
   begins : BeginsWithLines l.header l.lines l.rest l.bytes;
-  count : length l.lines ≡ l.before
+  count : length l.lines ≡ l.before;
 }

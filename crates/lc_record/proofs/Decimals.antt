@@ -3,7 +3,7 @@ use Rattle.std.proofs.Common.{◌≡◌, ℕ, ◌+◌, ◌-◌, ◌*◌, ◌/◌
 use Rattle.std.proofs.lemmas.Bool.{lt-ltb, le-ltb, cases_lt}
 use Rattle.std.proofs.lemmas.Fmt.{decimal_by_steps_wide, decimal_step_wide, decimal_digit}
 use Rattle.std.proofs.lemmas.List.{append_cancel_left}
-use Rattle.lc_record.specs.Reading.{ended}
+use Rattle.lc_record.specs.Pieces.{ended}
 
 -- the number that the digits up to the first other byte make, after those of v
 pub value_on : ℕ → List ℕ → ℕ
@@ -83,7 +83,7 @@ pub record Holds (n end : ℕ) (after bytes : List ℕ) : Type 0 where
   pub stops : end < 48
   pub text : bytes ≡ decimal n ++ end ∷ after
 
-pub holds : (n end : ℕ) (after bytes : List ℕ) → n < 2 ^ 117 → end < 48 → bytes ≡ ended end n ++ after → Holds n end after bytes
+pub holds : (n end : ℕ) (after bytes : List ℕ) → n < 2 ^ 120 → end < 48 → bytes ≡ ended end n ++ after → Holds n end after bytes
 holds n end after bytes small stops e = record { small = omega arith; stops = stops; text = e ∙ append_assoc (decimal n) (end ∷ []) after }
 
 module _ (n end : ℕ) (after bytes : List ℕ) (h : Holds n end after bytes) where
@@ -140,7 +140,7 @@ module _ (n end : ℕ) (after bytes : List ℕ) (h : Holds n end after bytes) wh
       omega (arith, same, h.stops)
 
 -- one digit more
-pub longer : (v d : ℕ) (x : List ℕ) → d < 10 → 0 < v → v < 2 ^ 117 → decimal v ++ (48 + d) ∷ x ≡ decimal (v * 10 + d) ++ x
+pub longer : (v d : ℕ) (x : List ℕ) → d < 10 → 0 < v → v < 2 ^ 120 → decimal v ++ (48 + d) ∷ x ≡ decimal (v * 10 + d) ++ x
 longer v d x small above below =
     let front : (v * 10 + d) / 10 ≡ v = omega arith in
     let last : (v * 10 + d) % 10 ≡ d = omega arith in

@@ -12,7 +12,8 @@ use Rattle.lc_record.specs.declared.reader.Record.{Record}
 use Rattle.lc_record.specs.declared.stop.RecordStop.{RecordStop}
 use Rattle.lc_record.specs.declared.stop.RecordStop.TheVariants as stop
 use Rattle.lc_record.specs.Record.{IsHeader, IsSample, header_bytes, line_bytes, text}
-use Rattle.lc_record.specs.Reading.{AreLinesOf, Begins, BeginsWithLines, IsFirstFault, IsLineFault, IsStop, IsTextOf, OrMemory, after_header, differs, ends, fault_after, goes_on, no_header, samples}
+use Rattle.lc_record.specs.Reading.{Begins, BeginsWithLines, IsFirstFault, IsLineFault, IsStop, IsTextOf, OrMemory, after_header, differs, ends, fault_after, goes_on, no_header, samples}
+use Rattle.lc_record.specs.Pieces.{AreLinesOf}
 use Rattle.lc_record.proofs.LinesRead.{line_not_empty}
 use Rattle.lc_record.proofs.Pieces.{headers_same, lines_same}
 

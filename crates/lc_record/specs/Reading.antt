@@ -1,39 +1,21 @@
 -- What it is to be the text of a record, and where a text that is none first differs from each.
-use Rattle.std.specs.Prelude.{◌≡◌, ◌≢◌, ◌⊎◌, ℕ, ◌*◌, ◌+◌, ◌<◌, ◌≤◌, List, [], ◌∷◌, ◌++◌, All, length, decimal, flat_map, Result, Err}
+use Rattle.std.specs.Prelude.{◌≡◌, ◌≢◌, ◌⊎◌, ℕ, ◌*◌, ◌+◌, ◌<◌, ◌≤◌, List, [], ◌∷◌, ◌++◌, All, length, flat_map, Result, Err}
 use Rattle.lc_num.specs.Faults.{Fault}
-use Rattle.lc_num.specs.declared.channels.Rgb.{Rgb}
 use Rattle.lc_rated.specs.declared.answer.Answer.{Answer}
 use Rattle.lc_record.specs.declared.head.Header.{Header}
 use Rattle.lc_record.specs.declared.kind.Kind.{Kind}
 use Rattle.lc_record.specs.declared.kind.Kind.TheVariants as kind
 use Rattle.lc_record.specs.declared.stop.RecordStop.{RecordStop}
 use Rattle.lc_record.specs.declared.stop.RecordStop.TheVariants as stop
-use Rattle.lc_record.specs.Record.{field, IsHeader, IsSample, header_bytes, line_bytes, text}
+use Rattle.lc_record.specs.Record.{IsHeader, IsSample, header_bytes, line_bytes, text}
 
 -- the bytes begin with the text of an allowed value
 abbrev pub Begins : {A : Type 0} → (A → Type 0) → (A → List ℕ) → List ℕ → Type 0
 Begins {A} IsAllowed text bytes = (a : A) × (rest : List ℕ) × IsAllowed a × (bytes ≡ text a ++ rest)
 
-abbrev pub IsWithin : ℕ → ℕ → ℕ → Type 0
-IsWithin least most n = (least ≤ n) × (n ≤ most)
-
--- a number, and the byte that ends it
-abbrev pub ended : ℕ → ℕ → List ℕ
-ended end n = decimal n ++ end ∷ []
-
--- three numbers, and the byte that ends the last
-abbrev pub colour : ℕ → Rgb → List ℕ
-colour end c = field c.r ++ field c.g ++ ended end c.b
-
 -- how many samples a header announces
 abbrev pub samples : Header → ℕ
 samples h = h.width * h.height * (h.grid * h.grid)
-
--- the lines after a header: one for each sample that it announces, and nothing else
-pub record AreLinesOf (h : Header) (answers : List Answer) (bytes : List ℕ) : Type 0 where
-  pub valid : All (IsSample h.cut) answers
-  pub count : length answers ≡ samples h
-  pub lines : bytes ≡ flat_map line_bytes answers
 
 -- a record within its ranges, and its text
 pub record IsTextOf (h : Header) (answers : List Answer) (bytes : List ℕ) : Type 0 where

@@ -1,6 +1,7 @@
 // Numbers at the front of a text.
 ghost use Rattle.std.specs.Prelude.{◌≡◌, ◌+◌, ◌^◌, ◌<◌, ◌≤◌, ◌++◌, IfSome, IfNone, MatchOption};
-ghost use Rattle.lc_record.specs.Reading.{Begins, IsWithin, ended};
+ghost use Rattle.lc_record.specs.Reading.{Begins};
+ghost use Rattle.lc_record.specs.Pieces.{IsWithin, ended};
 
 /// The value of a digit.
 fn digit(byte: u8) -> Option<u128>
@@ -16,7 +17,7 @@ fn digit(byte: u8) -> Option<u128>
 /// The number from `least` to `most` that the bytes begin with, with `end` behind it, and the bytes after these. It is
 /// written without leading zeros.
 pub(crate) fn number(bytes: &[u8], least: u128, most: u128, end: u8) -> Option<(u128, &[u8])>
-    requires most { most < 2 ^ 117 }
+    requires most { most < 2 ^ 120 }
     requires end { end < 48 }
     ensures found { IfSome result (λ read. IsWithin least most read.0 × (bytes.now ≡ ended end read.0 ++ read.1.now)) }
     ensures none { IfNone result (Begins (IsWithin least most) (ended end) bytes.now → ⊥) }
@@ -32,7 +33,8 @@ pub(crate) fn number(bytes: &[u8], least: u128, most: u128, end: u8) -> Option<(
             };
         }
         let longer = value * 10 + digit(*next)?;
-        if value == 0 || longer > most {
+        let leading_zero = value == 0;
+        if leading_zero || longer > most {
             return None;
         }
         value = longer;

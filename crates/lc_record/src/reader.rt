@@ -5,7 +5,8 @@ ghost use Rattle.lc_num.specs.Faults.{Fault};
 ghost use Rattle.lc_rated.specs.declared.answer.Answer.{Answer as AnswerValue};
 ghost use Rattle.lc_record.specs.declared.head.Header.{Header as HeaderValue};
 ghost use Rattle.lc_record.specs.Record.{IsHeader, IsSample, header_bytes, line_bytes};
-ghost use Rattle.lc_record.specs.Reading.{Begins, colour, samples, IsTextOf, AreLinesOf, IsFirstFault, IsLineFault, IsStop, OrMemory, kind_number};
+ghost use Rattle.lc_record.specs.Reading.{Begins, samples, IsTextOf, IsFirstFault, IsLineFault, IsStop, OrMemory, kind_number};
+ghost use Rattle.lc_record.specs.Pieces.{colour, AreLinesOf};
 
 use crate::head::Header;
 use crate::kind::Kind;

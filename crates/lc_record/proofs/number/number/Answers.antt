@@ -39,8 +39,8 @@ returns-in_err-longer-clause-none c = rw c.from_residual-in_err-longer.ensures (
     c.in_err-longer.ensures in
     c.if-next-end.false same.1)
 
-pub returns-then-value-eq0-clause-none : goal.returns-then-value-eq0-clause-none
-returns-then-value-eq0-clause-none c (n, after, within, e) =
+pub returns-then-leading_zero-clause-none : goal.returns-then-leading_zero-clause-none
+returns-then-leading_zero-clause-none c (n, after, within, e) =
     let h = holds n c.args.end after c.args.bytes.now (omega (arith, within)) c.requires.end e in
     let i = c.loop-next.invariant in
     let v = c.loop-next.value in
@@ -48,7 +48,7 @@ returns-then-value-eq0-clause-none c (n, after, within, e) =
     let text =
     i.text ∙ ap (λ (r : List ℕ). decimal v ++ r) c.in-Some.ensures.cases.0
     ∙ ap (λ (b : ℕ). decimal v ++ b ∷ c.in-Some.after.now) c.in_ok-longer.ensures.1 in
-    elim c.then-value-eq0.either [
+    elim c.then-leading_zero.either [
       | inl nothing ↦ no_leading_zero n c.args.end after c.args.bytes.now h v d c.in-Some.after.now nothing text
       | inr more ↦
           let above : 0 < v = omega (arith, more.0) in
@@ -66,7 +66,7 @@ loop-next-preserved c =
     i.text ∙ ap (λ (r : List ℕ). decimal v ++ r) c.in-Some.ensures.cases.0
     ∙ ap (λ (b : ℕ). decimal v ++ b ∷ c.in-Some.after.now) c.in_ok-longer.ensures.1 in
     record {
-      text = text ∙ longer v d c.in-Some.after.now c.in_ok-longer.ensures.0 (omega (arith, c.if-value-eq0.false)) i.small;
+      text = text ∙ longer v d c.in-Some.after.now c.in_ok-longer.ensures.0 (omega (arith, c.if-leading_zero.false)) i.small;
       small = omega arith;
     }
 

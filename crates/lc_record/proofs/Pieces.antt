@@ -25,7 +25,7 @@ module _ (end : ℕ) (c : Rgb) (after : List ℕ) (stops : end < 48) (valid : Is
   pub r_same : IsWithin 0 (2 ^ 117 - 1) n × (bytes ≡ ended 32 n ++ x) → bytes ≡ colour end c ++ after → (n ≡ c.r) × (x ≡ from_g end c after)
   r_same found e =
       numbers_same 32 n c.r x (from_g end c after) bytes (omega arith) (omega (arith, found.0)) (omega (arith, valid.r)) found.1
-        (e ∙ append_assoc (ended 32 c.r ++ ended 32 c.g) (ended end c.b) after ∙ append_assoc (ended 32 c.r) (ended 32 c.g) (ended end c.b ++ after))
+      (e ∙ append_assoc (ended 32 c.r ++ ended 32 c.g) (ended end c.b) after ∙ append_assoc (ended 32 c.r) (ended 32 c.g) (ended end c.b ++ after))
 
   pub g_same : IsWithin 0 (2 ^ 117 - 1) n × (bytes ≡ ended 32 n ++ x) → bytes ≡ from_g end c after → (n ≡ c.g) × (x ≡ ended end c.b ++ after)
   g_same found e = numbers_same 32 n c.g x (ended end c.b ++ after) bytes (omega arith) (omega (arith, found.0)) (omega (arith, valid.g)) found.1 e
@@ -82,11 +82,10 @@ lines_same cut a b x y few v w e =
     let size = size_same cut few b y w (from_evals a x) (line_bytes a ++ x) a.size ((omega arith, v.size), line_parts a x) e in
     let evals = evals_same cut few b y w (from_est a x) (from_evals a x) a.evals ((omega arith, v.evals), refl) size.1 in
     let est = est_same cut few b y w (from_bound a x) (from_est a x) a.est (v.est, refl) evals.1 in
-    let bound = bound_same cut few b y w x (from_bound a x) a.bound (v.bound, refl) est.1 in
-    (
+    let bound = bound_same cut few b y w x (from_bound a x) a.bound (v.bound, refl) est.1 in (
       ap (λ n. answer n a.evals a.est a.bound) size.0 ∙ ap (λ n. answer b.size n a.est a.bound) evals.0
-      ∙ ap (λ c. answer b.size b.evals c a.bound) est.0 ∙ ap (λ c. answer b.size b.evals b.est c) bound.0,
-      bound.1
+          ∙ ap (λ c. answer b.size b.evals c a.bound) est.0 ∙ ap (λ c. answer b.size b.evals b.est c) bound.0,
+      bound.1,
     )
 
 -- a header from the thousandths on, from the cut on, from the grid on, from the rows on, and from the columns on
@@ -139,10 +138,9 @@ headers_same h k x y v w e =
     let height = height_same k y w (from_grid h x) (from_height h x) h.height (v.height, refl) width.1 in
     let grid = grid_same k y w (from_cut h x) (from_grid h x) h.grid (v.grid, refl) height.1 in
     let cut = cut_same k y w (from_permille h x) (from_cut h x) h.cut (v.cut, refl) grid.1 in
-    let permille = permille_same k y w x (from_permille h x) h.permille ((omega arith, v.permille), refl) cut.1 in
-    (
+    let permille = permille_same k y w x (from_permille h x) h.permille ((omega arith, v.permille), refl) cut.1 in (
       ap (λ n. header n h.height h.grid h.cut h.permille) width.0 ∙ ap (λ n. header k.width n h.grid h.cut h.permille) height.0
-      ∙ ap (λ n. header k.width k.height n h.cut h.permille) grid.0 ∙ ap (λ n. header k.width k.height k.grid n h.permille) cut.0
-      ∙ ap (λ n. header k.width k.height k.grid k.cut n) permille.0,
-      permille.1
+          ∙ ap (λ n. header k.width k.height n h.cut h.permille) grid.0 ∙ ap (λ n. header k.width k.height k.grid n h.permille) cut.0
+          ∙ ap (λ n. header k.width k.height k.grid k.cut n) permille.0,
+      permille.1,
     )

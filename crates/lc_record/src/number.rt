@@ -7,10 +7,9 @@ ghost use Rattle.lc_record.specs.Pieces.{IsWithin, ended};
 fn digit(byte: u8) -> Option<u128>
     ensures { MatchOption result ((48 ≤ byte) × (byte < 58) → ⊥) (λ value. (value < 10) × (byte ≡ 48 + value)) }
 {
-    if byte.is_ascii_digit() {
-        Some(u128::from(byte - b'0'))
-    } else {
-        None
+    match byte {
+        b'0'..=b'9' => Some(u128::from(byte - b'0')),
+        _ => None,
     }
 }
 
@@ -26,11 +25,8 @@ pub(crate) fn number(bytes: &[u8], least: u128, most: u128, end: u8) -> Option<(
     let mut value = digit(*first)?;
     while let Some((next, after)) = rest.split_first() {
         if *next == end {
-            return if least <= value && value <= most {
-                Some((value, after))
-            } else {
-                None
-            };
+            let within = least <= value && value <= most;
+            return within.then_some((value, after));
         }
         let longer = value * 10 + digit(*next)?;
         let leading_zero = value == 0;

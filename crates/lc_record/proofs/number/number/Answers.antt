@@ -1,7 +1,15 @@
-use Rattle.std.proofs.Common.{ℕ, ◌+◌, ◌*◌, ◌<◌, List, ◌∷◌, ◌++◌, ◌∙◌, ap, sym, arith, decimal, inl, inr}
+use Rattle.std.proofs.Common.{◌≡◌, leb, Bool, true, false, refl, ℕ, ◌+◌, ◌*◌, ◌<◌, List, ◌∷◌, ◌++◌, ◌∙◌, ap, sym, arith, decimal, inl, inr}
+use Rattle.std.specs.Bool.{then_some}
+use Rattle.std.specs.Option.{IfNone}
+use Rattle.std.proofs.lemmas.Bool.{le-leb}
 use Rattle.std.proofs.lemmas.Fmt.{decimal_digit}
 use Rattle.lc_record.proofs.Decimals.{ends_at, first_digit, holds, longer, no_end, no_leading_zero, not_less}
+use Rattle.lc_record.proofs.number.number.Goals.{else-least-value, then-least-value}
 use Rattle.lc_record.proofs.number.number.Goals as goal
+
+none_of : {A : Type 0} (b : Bool) (x : A) {P : Type 0} → (b ≡ false → P) → IfNone (then_some b x) P
+none_of true x p = tt
+none_of false x p = p refl
 
 pub returns-in_err-value-clause-none : goal.returns-in_err-value-clause-none
 returns-in_err-value-clause-none c = rw c.from_residual-in_err-value.ensures (λ (n, after, within, e).
@@ -18,17 +26,18 @@ loop-next-init c =
       small = omega (arith, d.ensures.0);
     }
 
-pub returns-else-least-value-clause-none : goal.returns-else-least-value-clause-none
-returns-else-least-value-clause-none c (n, after, within, e) =
+pub returns-then-next-end-clause-none : goal.returns-then-next-end-clause-none
+returns-then-next-end-clause-none c = rw c.then_some.ensures
+    (none_of c.if-least-value.within _ (λ out (n, after, within, e).
     let h = holds n c.args.end after c.args.bytes.now (omega (arith, within)) c.requires.end e in
     let i = c.loop-next.invariant in
     let text = i.text ∙ ap (λ (r : List ℕ). decimal c.loop-next.value ++ r) c.in-Some.ensures.cases.0 in
     let same = ends_at n c.args.end after c.args.bytes.now h c.loop-next.value c.in-Some.next.now c.in-Some.after.now (omega (arith, i.small)) text
     (λ digit. omega (arith, c.requires.end, c.if-next-end.true, digit.0)) in
-    elim c.else-least-value.either [
-      | inl x ↦ omega (arith, same.0, within, x)
-      | inr y ↦ omega (arith, same.0, within, y)
-    ]
+    elim c.if-least-value.branch [
+      | then-least-value w ↦ let fits : leb c.loop-next.value c.args.most ≡ true = le-leb _ _ (omega (arith, within, same.0)) in cc (w.within-is, out, fits)
+      | else-least-value w ↦ omega (arith, w.if-least-value.false, within, same.0)
+    ]))
 
 pub returns-in_err-longer-clause-none : goal.returns-in_err-longer-clause-none
 returns-in_err-longer-clause-none c = rw c.from_residual-in_err-longer.ensures (λ (n, after, within, e).

@@ -75,7 +75,7 @@ loop-next-preserved c =
     i.text ∙ ap (λ (r : List ℕ). decimal v ++ r) c.in-Some.ensures.cases.0
     ∙ ap (λ (b : ℕ). decimal v ++ b ∷ c.in-Some.after.now) c.in_ok-longer.ensures.1 in
     record {
-      text = text ∙ longer v d c.in-Some.after.now c.in_ok-longer.ensures.0 (omega (arith, c.if-leading_zero.false)) i.small;
+      text = text ∙ longer v d c.in-Some.after.now c.in_ok-longer.ensures.0 (omega arith) i.small;
       small = omega arith;
     }
 

@@ -1,4 +1,5 @@
 pub use Rattle.lc_num.specs.Channels
+pub use Rattle.lc_num.specs.Faults
 pub mod Record
 pub mod Reading
 pub mod Pieces

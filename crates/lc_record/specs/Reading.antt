@@ -11,7 +11,7 @@ use Rattle.lc_record.specs.Record.{IsHeader, IsSample, header_bytes, line_bytes,
 
 -- the bytes begin with the text of an allowed value
 abbrev pub Begins : {A : Type 0} → (A → Type 0) → (A → List ℕ) → List ℕ → Type 0
-Begins {A} IsAllowed text bytes = (a : A) × (rest : List ℕ) × IsAllowed a × (bytes ≡ text a ++ rest)
+Begins {A} IsAllowed written bytes = (a : A) × (rest : List ℕ) × IsAllowed a × (bytes ≡ written a ++ rest)
 
 -- how many samples a header announces
 abbrev pub samples : Header → ℕ

@@ -1,5 +1,5 @@
 // A record read back from its text.
-ghost use Rattle.std.specs.Prelude.{◌≡◌, ◌*◌, ◌+◌, ◌-◌, ◌^◌, ◌<◌, ◌≤◌, ◌++◌, List as Items, Ok, IfOk, IfErr, IfSome, IfNone, codes, ◌≢◌, ℕ, length};
+ghost use Rattle.std.specs.Prelude.{◌≡◌, ◌≢◌, ◌+◌, ◌-◌, ◌^◌, ◌<◌, ◌≤◌, ◌++◌, ℕ, List as Items, length, codes, Ok, IfOk, IfErr, IfSome, IfNone};
 ghost use Rattle.lc_num.specs.Channels.{IsRgbWithin};
 ghost use Rattle.lc_num.specs.Faults.{Fault};
 ghost use Rattle.lc_rated.specs.declared.answer.Answer.{Answer as AnswerValue};
@@ -37,7 +37,6 @@ fn after_mark(bytes: &[u8]) -> Option<&[u8]>
 }
 
 /// The header that the bytes begin with, and the bytes after it.
-#[tactic(auto, unfolding(crate::specs::Record::header_bytes))]
 fn header_of(bytes: &[u8]) -> Option<(Header, &[u8])>
     ensures found { IfSome result (λ read. IsHeader read.0 × (bytes.now ≡ header_bytes read.0 ++ read.1.now)) }
     ensures none { IfNone result (Begins IsHeader header_bytes bytes.now → ⊥) }
@@ -71,7 +70,6 @@ fn colour_of(bytes: &[u8], end: u8) -> Option<(Rgb, &[u8])>
 }
 
 /// The answer whose line the bytes begin with, and the bytes after it.
-#[tactic(auto, unfolding(crate::specs::Record::line_bytes))]
 fn answer_of(bytes: &[u8], cut: u32) -> Option<(Answer, &[u8])>
     requires { cut ≤ 65_536 }
     ensures found { IfSome result (λ read. IsSample cut read.0 × (bytes.now ≡ line_bytes read.0 ++ read.1.now)) }
@@ -155,7 +153,8 @@ fn read(alloc: Global, bytes: &[u8]) -> Result<Record, RecordStop>
     Ok(Record { header, lines })
 }
 
-/// The record whose text these are, at most 512 MiB of bytes, or the first fault.
+/// The record whose text these bytes are, at most 512 MiB of them, or their first fault. No record but what
+/// `header_text` and `line_text` write is read.
 pub fn read_record(alloc: Global, bytes: &[u8]) -> Result<Record, RecordStop>
     requires { length bytes.now ≤ 536_870_912 }
 

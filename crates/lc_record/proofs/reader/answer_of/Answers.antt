@@ -1,7 +1,11 @@
 use Rattle.std.proofs.Common.{ℕ, ◌++◌, ◌∙◌, List, ap, sym, arith}
 use Rattle.lc_record.specs.Pieces.{colour, ended}
-use Rattle.lc_record.proofs.Pieces.{est_same, evals_same, from_bound, from_est, line_parts, size_same}
+use Rattle.lc_record.proofs.Pieces.{est_same, evals_same, from_bound, from_est, from_evals, line_parts, size_same}
 use Rattle.lc_record.proofs.reader.answer_of.Goals as goal
+
+pub returns-in_err-size-clause-none : goal.returns-in_err-size-clause-none
+returns-in_err-size-clause-none c = rw c.from_residual.ensures (λ (a, after, valid, e).
+    c.in_err-size.ensures.none (a.size, from_evals a after, (omega arith, omega (arith, valid.size, c.from-cut.ensures)), e ∙ line_parts a after))
 
 pub returns-in_err-evals-clause-none : goal.returns-in_err-evals-clause-none
 returns-in_err-evals-clause-none c = rw c.from_residual-in_err-evals.ensures (λ (a, after, valid, e).

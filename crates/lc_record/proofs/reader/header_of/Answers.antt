@@ -1,7 +1,11 @@
 use Rattle.std.proofs.Common.{ℕ, ◌++◌, ◌∙◌, List, ap, codes, sym, arith}
 use Rattle.lc_record.specs.Pieces.{ended}
-use Rattle.lc_record.proofs.Pieces.{cut_same, from_cut, from_grid, from_height, from_permille, grid_same, header_parts, height_same, mark_same, width_same}
+use Rattle.lc_record.proofs.Pieces.{cut_same, from_cut, from_grid, from_height, from_permille, from_width, grid_same, header_parts, height_same, mark_same, width_same}
 use Rattle.lc_record.proofs.reader.header_of.Goals as goal
+
+pub returns-in_err-rest-clause-none : goal.returns-in_err-rest-clause-none
+returns-in_err-rest-clause-none c = rw c.from_residual.ensures (λ (h, after, valid, e).
+    c.in_err-rest.ensures.none (from_width h after) (e ∙ header_parts h after))
 
 pub returns-in_err-width-clause-none : goal.returns-in_err-width-clause-none
 returns-in_err-width-clause-none c = rw c.from_residual-in_err-width.ensures (λ (h, after, valid, e).

@@ -1,13 +1,9 @@
 // One failing call at each place of a render.
-ghost use Rattle.std.specs.Prelude.{◌≡◌, ◌<◌};
-
-use crate::run;
+use crate::tests::serve;
 use lc_desk::{MemoryDesk, Slot};
-use lc_num::{Memory, Steps};
+use lc_num::Memory;
 use std::alloc::Global;
-use std::marker::Brand;
 use std::process::Abort;
-use std::sync::ledger::{Blank, Ledger};
 use std::test::Fail;
 
 const PICTURE: &[u8] = b"P6\n1 3\n255\n\0\0\0\xE4\xE4\xE4\0\0\0";
@@ -15,22 +11,9 @@ const PICTURE: &[u8] = b"P6\n1 3\n255\n\0\0\0\xE4\xE4\xE4\0\0\0";
 const RECORD: &[u8] =
     b"LCB 1 1 3 1 1000 20\n0 0 0 0 0 0 0 0\n1 1 5242880000000000000000 5242880000000000000000 5242880000000000000000 0 0 0\n0 0 0 0 0 0 0 0\n";
 
-fn count<L: Ledger>(alloc: Global, desk: &mut MemoryDesk, blank: Blank) -> u8
-    requires name { blank.name ≡ L.name }
-    requires parts { blank.parts ≡ L.parts }
-    requires some { 0 < blank.parts }
-{
-    run(
-        alloc,
-        &["render", "j.txt"],
-        desk,
-        &mut Steps::<L>::start(blank),
-    )
-}
-
 /// Renders a triangle in the middle of three pixels.
-fn serve(alloc: Global, desk: &mut MemoryDesk) -> u8 {
-    count::<Brand>(alloc, desk, Blank::new(1))
+fn render(alloc: Global, desk: &mut MemoryDesk) -> u8 {
+    serve(alloc, &["render", "j.txt"], desk)
 }
 
 fn desk_of_three(alloc: Global) -> Result<MemoryDesk, Memory> {
@@ -91,7 +74,7 @@ fn stops_at_each_call(rt: HostRuntime) -> Result<(), Fail> {
     for (call, status, note, picture, record) in STOPS {
         let mut desk = desk_of_three(rt.alloc())?;
         desk.fail(call, 2)?;
-        assert_eq!(rt; serve(rt.alloc(), &mut desk), status, "call {call}");
+        assert_eq!(rt; render(rt.alloc(), &mut desk), status, "call {call}");
         assert_eq!(rt; desk.told(Slot::Note), note.as_bytes(), "call {call}");
         expect_parts(&rt, call, &desk, picture, record);
     }
@@ -108,7 +91,7 @@ fn stops_at_each_call_and_at_the_next(rt: HostRuntime) -> Result<(), Fail> {
         let mut desk = desk_of_three(rt.alloc())?;
         desk.fail(call, 2)?;
         desk.fail(call.saturating_add(1), 2)?;
-        assert_eq!(rt; serve(rt.alloc(), &mut desk), status, "call {call}");
+        assert_eq!(rt; render(rt.alloc(), &mut desk), status, "call {call}");
         assert_eq!(rt; desk.told(Slot::Note).len(), 2, "call {call}");
         assert!(rt;
             note.as_bytes().starts_with(desk.told(Slot::Note)),
@@ -131,13 +114,13 @@ fn puts_a_line_on_note_in_two_pieces(rt: HostRuntime) -> Result<(), Fail> {
             let mut desk = desk_of_three(rt.alloc())?;
             desk.fail(first, taken)?;
             desk.fail(first + 1, taken)?;
-            let _ = serve(rt.alloc(), &mut desk);
+            let _ = render(rt.alloc(), &mut desk);
             assert_eq!(rt; desk.told(Slot::Note), front.as_bytes());
             // The second piece is taken whole, though its put fails.
             let mut desk = desk_of_three(rt.alloc())?;
             desk.fail(first, taken)?;
             desk.fail(first + 2, taken)?;
-            let _ = serve(rt.alloc(), &mut desk);
+            let _ = render(rt.alloc(), &mut desk);
             assert_eq!(rt; desk.told(Slot::Note), whole.as_bytes());
         }
     }

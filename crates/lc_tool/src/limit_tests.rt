@@ -87,12 +87,11 @@ fn limits_of_coordinates_and_indices(rt: HostRuntime) -> Result<(), Fail> {
     Ok(())
 }
 
+/// Where the lists are one longer, or full by triangles, is tried by the reader of meshes.
 #[test]
 fn limits_of_lists_in_meshes(rt: HostRuntime) -> Result<(), Fail> {
     for (first, piece, count, last, refusal) in [
         ("", "v 0 0 0\n", 1_000_000, "", None),
-        ("", "v 0 0 0\n", 1_000_001, "", Some((1_000_001, 7))),
-        ("v 0 0 0\nf", " 1", 1_000_002, "\n", None),
         ("v 0 0 0\nf", " 1", 1_000_003, "\n", Some((2, 8))),
         ("", "\\\n", 1_000_000, "v", Some((1, 2))),
     ] {

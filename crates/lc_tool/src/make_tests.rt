@@ -1,26 +1,20 @@
 // Made scenes over a desk in memory.
-ghost use Rattle.std.specs.Prelude.{◌≡◌, ◌<◌};
+ghost use Rattle.std.specs.Prelude.{◌≤◌, IfOk, IsTrue, length};
+ghost use Rattle.std.proofs.Common.{All};
+ghost use Rattle.lc_num.specs.Vectors.{Within};
+ghost use Rattle.lc_geom.specs.Triangles.{IsTri};
 
-use crate::run;
+use crate::tests::serve;
 use lc_desk::{MemoryDesk, Slot};
-use lc_num::{Memory, Steps};
+use lc_geom::{Tri, Triangles};
+use lc_hier::{Hier, Plain};
+use lc_light::read_lights;
+use lc_make::make;
+use lc_num::{List, Memory, Vec3};
+use lc_obj::read_obj;
 use std::alloc::{AllocGlobal, Global};
-use std::marker::Brand;
 use std::process::Abort;
-use std::sync::ledger::{Blank, Ledger};
 use std::test::Fail;
-
-fn count<L: Ledger>(alloc: Global, words: &[&str], desk: &mut MemoryDesk, blank: Blank) -> u8
-    requires name { blank.name ≡ L.name }
-    requires parts { blank.parts ≡ L.parts }
-    requires some { 0 < blank.parts }
-{
-    run(alloc, words, desk, &mut Steps::<L>::start(blank))
-}
-
-fn serve(alloc: Global, words: &[&str], desk: &mut MemoryDesk) -> u8 {
-    count::<Brand>(alloc, words, desk, Blank::new(1))
-}
 
 /// Makes the scene of a number, whose line on Report begins so.
 fn expect_made(rt: &(impl Abort + AllocGlobal), number: &str, desk: &mut MemoryDesk, report: &str) {
@@ -65,7 +59,7 @@ fn makes_scenes(rt: HostRuntime) -> Result<(), Fail> {
 }
 
 fn desk_with_texts(alloc: Global) -> Result<MemoryDesk, Memory> {
-    let made = lc_make::make(alloc, 3)?;
+    let made = make(alloc, 3)?;
     let mut desk = MemoryDesk::new(alloc);
     desk.add("made.txt", made.job.as_slice())?;
     desk.add("made.obj", made.obj.as_slice())?;
@@ -99,5 +93,56 @@ fn tells_that_report_failed(rt: HostRuntime) -> Result<(), Fail> {
     assert_eq!(rt; desk.told(Slot::Note), b"report: write fault\n".as_slice());
     assert!(rt; desk.told(Slot::Picture) == made.told(Slot::Picture));
     assert!(rt; desk.told(Slot::Bounds) == made.told(Slot::Bounds));
+    Ok(())
+}
+
+fn in_range(place: Vec3) -> bool
+    ensures { IsTrue result → Within 50_000_000 place }
+{
+    place.x.unsigned_abs() <= 50_000_000
+        && place.y.unsigned_abs() <= 50_000_000
+        && place.z.unsigned_abs() <= 50_000_000
+}
+
+/// The triangles of a mesh, at most 1000.
+fn triangles(alloc: Global, text: &[u8]) -> Result<List<Tri>, Fail>
+    requires { length text.now ≤ 536_870_912 }
+    ensures valid { IfOk result (All IsTri) }
+    ensures few { IfOk result (λ list. length list ≤ 1_000) }
+{
+    let mesh = read_obj(alloc, text)?;
+    let mut list = List::new(alloc);
+    for face in mesh.faces.as_slice() {
+        let Tri { a, b, c } = face.tri;
+        if in_range(a) && in_range(b) && in_range(c) && list.as_slice().len() < 1_000 {
+            list.push(face.tri)?;
+        }
+    }
+    Ok(list)
+}
+
+/// The hierarchy of a made scene answers as the list of its triangles does, and tests less than half of them.
+#[test]
+fn tests_few_triangles_of_a_made_scene(rt: HostRuntime) -> Result<(), Fail> {
+    let made = make(rt.alloc(), 39)?;
+    let list = triangles(rt.alloc(), made.obj.as_slice())?;
+    assert_eq!(rt; list.as_slice().len(), 482);
+    let boxes = Hier::build(rt.alloc(), list.as_slice())?;
+    let plain = Plain::new(list);
+    let lights = read_lights(rt.alloc(), made.lights.as_slice(), 39)?;
+    let start = Vec3 {
+        x: 300_000,
+        y: 1_000,
+        z: 300_000,
+    };
+    assert_eq!(rt; lights.omni.as_slice().len(), 1039);
+    let mut tests = 0;
+    for light in lights.omni.as_slice() {
+        let end = light.place;
+        assert!(rt; in_range(end));
+        assert!(rt; tests < 1_000_000);
+        assert!(rt; boxes.blocked_counting(start, end, &mut tests) == plain.blocked(start, end));
+    }
+    assert!(rt; tests < 1039 * 482 / 2);
     Ok(())
 }

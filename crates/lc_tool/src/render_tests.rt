@@ -1,13 +1,9 @@
 // Renders over a desk in memory.
-ghost use Rattle.std.specs.Prelude.{◌≡◌, ◌<◌};
-
-use crate::run;
+use crate::tests::serve;
 use lc_desk::{MemoryDesk, Slot};
-use lc_num::{Memory, Steps};
+use lc_num::Memory;
 use std::alloc::{AllocGlobal, Global};
-use std::marker::Brand;
 use std::process::Abort;
-use std::sync::ledger::{Blank, Ledger};
 use std::test::Fail;
 
 const SCENE: &str = "v -1 -1 0\nv 1 -1 0\nv 0 1 0\nf 1 2 3\n";
@@ -22,18 +18,6 @@ const PICTURE: &[u8] = b"P6\n1 1\n255\n\xE4\xE4\xE4";
 
 const RECORD: &[u8] =
     b"LCB 1 1 1 1 1000 20\n1 1 5242880000000000000000 5242880000000000000000 5242880000000000000000 0 0 0\n";
-
-fn count<L: Ledger>(alloc: Global, words: &[&str], desk: &mut MemoryDesk, blank: Blank) -> u8
-    requires name { blank.name ≡ L.name }
-    requires parts { blank.parts ≡ L.parts }
-    requires some { 0 < blank.parts }
-{
-    run(alloc, words, desk, &mut Steps::<L>::start(blank))
-}
-
-fn serve(alloc: Global, words: &[&str], desk: &mut MemoryDesk) -> u8 {
-    count::<Brand>(alloc, words, desk, Blank::new(1))
-}
 
 /// A desk with a job of these names and this view, and with a scene and lights.
 fn desk_with(

@@ -19,7 +19,7 @@ fn count<L: Ledger>(alloc: Global, words: &[&str], desk: &mut MemoryDesk, blank:
     run(alloc, words, desk, &mut Steps::<L>::start(blank))
 }
 
-fn serve(alloc: Global, words: &[&str], desk: &mut MemoryDesk) -> u8 {
+pub(crate) fn serve(alloc: Global, words: &[&str], desk: &mut MemoryDesk) -> u8 {
     count::<Brand>(alloc, words, desk, Blank::new(1))
 }
 

@@ -104,5 +104,82 @@ case_of 'a library that is not beside the scene' 7 '' 'scene/m.mtl: absent' rend
 echo 'Kd 1' >scene/m.mtl
 case_of 'a faulty library' 5 '' 'scene/m.mtl: line 1: kind 3' render j.txt
 
-echo "$good as wanted, $bad not"
+
+# devices, names and streams
+printf 'newmtl a\nKd 0.5\n' >scene/m.mtl
+cp rendered.ppm wanted.ppm
+job folder b.lcb >infolder.txt
+case_of 'a folder as the picture' 9 '' 'picture: write fault' render infolder.txt
+long=$(printf '%05000d' 7)
+job "$long" b.lcb >longname.txt
+case_of 'a picture with a name of 5000 bytes' 9 '' 'picture: write fault' render longname.txt
+case_of 'lights with a name of 5000 bytes' 8 '' "$long: read fault" probe "$long"
+mkfifo fifo
+(cat l.txt >fifo &)
+case_of 'a fifo as the lights' 0 "$row" '' probe fifo
+job fifo b.lcb >tofifo.txt
+(cat fifo >fromfifo.ppm; echo done >fifodone) &
+case_of 'a fifo as the picture' 0 '' '' render tofifo.txt
+wait
+case_of 'the picture from the fifo' 0 '' '' cmp fromfifo.ppm wanted.ppm
+mkdir readonly
+chmod 555 readonly
+job readonly/p.ppm b.lcb >inreadonly.txt
+if [ "$(id -u)" -eq 0 ]; then
+    touch b.lcb
+    chmod 666 b.lcb
+    as_no_one() { setpriv --reuid 65534 --clear-groups "$program" render "$1"; }
+    case_of 'a picture in a folder without leave to write' 9 '' 'picture: write fault' as_no_one inreadonly.txt
+else
+    case_of 'a picture in a folder without leave to write' 9 '' 'picture: write fault' render inreadonly.txt
+fi
+streamless() { (exec 0<&- 1>&- 2>&-; exec "$program" render j.txt); }
+rm -f p.ppm b.lcb
+case_of 'all standard streams closed' 0 '' '' streamless
+case_of 'the picture with all streams closed' 0 '' '' cmp p.ppm wanted.ppm
+case_of 'the record with all streams closed' 0 'LCB 1 1 1 1 1000 20' '' head -n 1 b.lcb
+faulty_streamless() { (exec 0<&- 1>&- 2>&-; exec "$program" render bad.txt); }
+case_of 'a faulty job with all streams closed' 3 '' '' faulty_streamless
+
+# two runs at once
+job one.ppm one.lcb >one.txt
+job two.ppm two.lcb >two.txt
+both() { "$program" render one.txt & "$program" render two.txt && wait $!; }
+case_of 'two renders at once' 0 '' '' both
+case_of 'the same picture of both' 0 '' '' cmp one.ppm two.ppm
+case_of 'the same record of both' 0 '' '' cmp one.lcb two.lcb
+
+# made scenes
+made() { "$program" make "$1"; }
+made 0 >line 2>err
+case_of 'the line of a made scene' 0 'lights 1513 triangles 14 samples 768 cut' '' cut -d ' ' -f 1-7 line
+case_of 'the header of a made picture' 0 "$(printf 'P6\n32 24\n255\n')" '' head -c 13 made.ppm
+case_of 'the lines of a made record' 0 '769' '' grep -c '' made.lcb
+mv made.ppm once.ppm
+mv made.lcb once.lcb
+cp line once.txt
+made 0 >line 2>err
+case_of 'the same picture again' 0 '' '' cmp made.ppm once.ppm
+case_of 'the same record again' 0 '' '' cmp made.lcb once.lcb
+case_of 'the same line again' 0 '' '' cmp line once.txt
+case_of 'a scene of no number' 2 '' "$usage" made 10000
+made_full() { made 0 >/dev/full; }
+case_of 'standard output full after a made scene' 9 '' 'report: write fault' made_full
+case_of 'the picture of that scene' 0 '' '' cmp made.ppm once.ppm
+
+# a signal in the middle of a picture: both files are first parts of what a whole run leaves
+ended() {
+    "$program" make 39 >/dev/null &
+    local run=$!
+    sleep 0.1
+    kill -TERM $run 2>/dev/null
+    wait $run 2>/dev/null
+    mv made.ppm part.ppm
+    mv made.lcb part.lcb
+    made 39 >/dev/null
+    cmp -n "$(stat -c %s part.ppm)" part.ppm made.ppm && cmp -n "$(stat -c %s part.lcb)" part.lcb made.lcb
+}
+case_of 'a run that a signal ends' 0 '' '' ended
+
+echo "$good passed, $bad failed"
 [ $bad -eq 0 ]

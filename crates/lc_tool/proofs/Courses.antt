@@ -7,7 +7,7 @@ use Rattle.lc_tool.specs.declared.status.Stop.TheVariants.{Memory, Faulty, Absen
 use Rattle.lc_tool.specs.Course.{Course, Refusal, goes_on, and_then, at_once, refuses, told}
 use Rattle.lc_tool.specs.Status.{stop_code}
 use Rattle.lc_tool.specs.Stopped.{Reads, ReadsFirst, Gave, Went, RefusedBy, Refuses}
-use Rattle.lc_tool.proofs.Keeps.{reads_none, reads_then}
+use Rattle.lc_tool.proofs.Keeps.{counts_none, counts_then, reads_none, reads_then}
 
 -- ---- what is told of the files
 
@@ -128,6 +128,7 @@ went_then {A} {B} step next a b x y z first later =
     let told_now : IfSome (told (λ files. next files a) x.held) (Gave b y z) = subst (λ held. IfSome (told (λ files. next files a) held) (Gave b y z)) first.reads.later.held later.told in
     record {
       reads = reads_then x y z first.reads later.reads;
+      counts = counts_then x y z first.counts later.counts;
       told = told_both x.held step (λ files. next files a) (λ files. and_then (step files) (next files)) (Gave a x y) (Gave b y z) (Gave b x z)
           (λ files p q. gave_then (step files) (next files) a b x y z p q) first.told told_now;
     }
@@ -136,6 +137,7 @@ went_then {A} {B} step next a b x y z first later =
 pub went_once : {A : Type 0} (course : Files → Course A) (a : A) (held : Option Files) (x : DeskState) → ((files : Files) → course files ≡ at_once (Ok a)) → Went (told course held) a x x
 went_once course a held x is = record {
   reads = reads_none x;
+  counts = counts_none x;
   told = told_always held course (Gave a x x) (λ files. subst (Gave a x x) (sym (is files)) (gave_once a x));
 }
 

@@ -16,7 +16,7 @@ use Rattle.lc_tool.specs.Ends.{Began, Ends, Counts, write_line}
 use Rattle.lc_tool.specs.Noted.{Noted}
 use Rattle.lc_tool.specs.Stopped.{Gave, Went}
 use Rattle.lc_tool.specs.Work.{Work}
-use Rattle.lc_tool.proofs.Keeps.{reads_none}
+use Rattle.lc_tool.proofs.Keeps.{counts_none, reads_none}
 use Rattle.lc_tool.proofs.Courses.{less_told, told_as, went_on, went_then, gave_once}
 use Rattle.lc_tool.proofs.Stopping.{stopped_then}
 
@@ -24,7 +24,7 @@ use Rattle.lc_tool.proofs.Stopping.{stopped_then}
 
 -- what is to be written is known at once
 began_now : (slots : List Slot) (work : Work) (x : DeskState) → AreOn slots work.calls → Began slots (Some (at_once (Ok work))) work x x
-began_now slots work x on = record { on = on; reads = reads_none x; told = gave_once work x }
+began_now slots work x on = record { on = on; reads = reads_none x; counts = counts_none x; told = gave_once work x }
 
 -- all calls were made
 pub done_now : (slots : List Slot) (work : Work) (x y : DeskState) → AreOn slots work.calls → Made work.calls x y → Ends Done slots (Some (at_once (Ok work))) x y
@@ -46,7 +46,7 @@ counts_now status work steps_before steps_now h = h
 -- ---- a later step
 
 began_told : (slots : List Slot) (course : Course Work) (work : Work) (held : Option Files) (x y : DeskState) → Began slots (Some course) work x y → Began slots (told (λ files. course) held) work x y
-began_told slots course work held x y began = record { on = began.on; reads = began.reads; told = less_told course held (Gave work x y) began.told }
+began_told slots course work held x y began = record { on = began.on; reads = began.reads; counts = began.counts; told = less_told course held (Gave work x y) began.told }
 
 -- an end of a course is one over a desk, whether it tells its files or not
 pub ends_told : (status : Status) (slots : List Slot) (course : Course Work) (held : Option Files) (x y : DeskState) → Ends status slots (Some course) x y → Ends status slots (told (λ files. course) held) x y
@@ -65,9 +65,9 @@ ends_told (Unwritten stop) slots course held x y h = record {
 
 began_then : {A : Type 0} (slots : List Slot) (step : Files → Course A) (next : Files → A → Course Work) (a : A) (work : Work) (x y z : DeskState) → Went (told step x.held) a x y → Began slots (told (λ files. next files a) y.held) work y z → Began slots (told (λ files. and_then (step files) (next files)) x.held) work x z
 began_then slots step next a work x y z first began =
-    let later : Went (told (λ files. next files a) y.held) work y z = record { reads = began.reads; told = began.told } in
+    let later : Went (told (λ files. next files a) y.held) work y z = record { reads = began.reads; counts = began.counts; told = began.told } in
     let both = went_then step next a work x y z first later in
-    record { on = began.on; reads = both.reads; told = both.told }
+    record { on = began.on; reads = both.reads; counts = both.counts; told = both.told }
 
 -- the end of a later step is the end of the whole
 pub ends_next : {A : Type 0} (status : Status) (slots : List Slot) (step : Files → Course A) (next : Files → A → Course Work) (a : A) (x y z : DeskState) → Went (told step x.held) a x y → Ends status slots (told (λ files. next files a) y.held) y z → Ends status slots (told (λ files. and_then (step files) (next files)) x.held) x z

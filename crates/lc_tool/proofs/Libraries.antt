@@ -15,6 +15,7 @@ use Rattle.lc_tool.proofs.Stopping.{stopped_first, stopped_then}
 pub went_as : {A : Type 0} (f g : Files → Course A) (a : A) (held : Option Files) (x y : DeskState) → ((files : Files) → f files ≡ g files) → Went (told f held) a x y → Went (told g held) a x y
 went_as f g a held x y e h = record {
   reads = h.reads;
+  counts = h.counts;
   told = told_as held f g (Gave a x y) (Gave a x y) (λ files p. subst (Gave a x y) (e files) p) h.told;
 }
 

@@ -12,9 +12,9 @@ use Rattle.lc_tool.specs.Ends.{Began, Ends, Counts}
 use Rattle.lc_tool.specs.Lines.{memory_line}
 use Rattle.lc_tool.specs.Noted.{Noted}
 use Rattle.lc_tool.specs.Status.{source_code}
-use Rattle.lc_tool.specs.Stopped.{Gave, Went, IsFaultLine, StoppedBy, Refuses}
+use Rattle.lc_tool.specs.Stopped.{Gave, NoReadCounted, Went, IsFaultLine, StoppedBy, Refuses}
 use Rattle.lc_tool.specs.Work.{Work}
-use Rattle.lc_tool.proofs.Keeps.{reads_then}
+use Rattle.lc_tool.proofs.Keeps.{counts_then, reads_then}
 use Rattle.lc_tool.proofs.Courses.{gave_then, less_told, refuses_first, refuses_next, went_on, went_once, went_then}
 use Rattle.lc_tool.proofs.Stopping.{cause_since, memory_stops, noted_later, stopped_then, text_stops}
 
@@ -29,8 +29,8 @@ pub parsed : {A : Type 0} (course : Course A) (a : A) (x : DeskState) → course
 parsed course a x is = went_once (λ files. course) a (Some any_files) x (λ files. is)
 
 -- no memory
-pub parse_short : {A : Type 0} (course : Course A) (x y : DeskState) → Noted memory_line x y → y.asked ≡ x.asked → StoppedBy Memory (Some course) x y
-parse_short course x y noted same = memory_stops (λ files. course) (Some any_files) x y noted same
+pub parse_short : {A : Type 0} (course : Course A) (x y : DeskState) → Noted memory_line x y → y.asked ≡ x.asked → NoReadCounted x y → StoppedBy Memory (Some course) x y
+parse_short course x y noted same counts = memory_stops (λ files. course) (Some any_files) x y noted same counts
 
 -- a fault
 pub parse_faulty : {A : Type 0} (text : Source) (line : List ℕ) (course : Course A) (x y : DeskState) → IsFaultLine text line → course ≡ at_once (refuses (source_code text) line) → Noted line x y → y.asked ≡ x.asked → StoppedBy (Faulty text) (Some course) x y
@@ -40,7 +40,7 @@ parse_faulty text line course x y form is noted same = text_stops text line (λ 
 
 -- what a step says that reads nothing, it says over the files of a desk
 went_told : {A : Type 0} (course : Course A) (a : A) (held : Option Files) (x y : DeskState) → Went (Some course) a x y → Went (told (λ files. course) held) a x y
-went_told course a held x y h = record { reads = h.reads; told = less_told course held (Gave a x y) h.told }
+went_told course a held x y h = record { reads = h.reads; counts = h.counts; told = less_told course held (Gave a x y) h.told }
 
 stopped_told : {A : Type 0} (stop : Stop) (course : Course A) (held : Option Files) (x y : DeskState) → StoppedBy stop (Some course) x y → StoppedBy stop (told (λ files. course) held) x y
 stopped_told stop course held x y h = record { line = h.line; form = h.form; cause = h.cause; told = less_told course held (Refuses stop h.line x y) h.told; noted = h.noted }
@@ -71,13 +71,13 @@ stopped_at stop step next x y h = record { line = h.line; form = h.form; cause =
 module _ {A B : Type 0} (step : Course A) (next : A → Course B) (a : A) (x y z : DeskState) (first : Went (Some step) a x y) where
   -- a first step that went well, and then the next
   pub went_from : (b : B) → Went (Some (next a)) b y z → Went (Some (and_then step next)) b x z
-  went_from b later = record { reads = reads_then x y z first.reads later.reads; told = gave_then step next a b x y z first.told later.told }
+  went_from b later = record { reads = reads_then x y z first.reads later.reads; counts = counts_then x y z first.counts later.counts; told = gave_then step next a b x y z first.told later.told }
 
   pub stopped_from : (stop : Stop) → StoppedBy stop (Some (next a)) y z → StoppedBy stop (Some (and_then step next)) x z
   stopped_from stop h = record {
     line = h.line;
     form = h.form;
-    cause = cause_since stop x y z first.reads.later h.cause;
+    cause = cause_since stop x y z first.reads.later first.counts h.cause;
     told = refuses_next stop h.line x y z step next a first.told h.told;
     noted = noted_later h.line x y z first.reads h.noted;
   }
@@ -93,8 +93,8 @@ module _ {A B : Type 0} (step : Course A) (next : A → Course B) (a : A) (x y z
 module _ {A : Type 0} (slots : List Slot) (step : Course A) (next : A → Course Work) (a : A) (x y z : DeskState) (first : Went (Some step) a x y) where
   began_from : (work : Work) (start : DeskState) → Began slots (Some (next a)) work y start → Began slots (Some (and_then step next)) work x start
   began_from work start began =
-      let both = went_from step next a x y start first work (record { reads = began.reads; told = began.told }) in
-      record { on = began.on; reads = both.reads; told = both.told }
+      let both = went_from step next a x y start first work (record { reads = began.reads; counts = began.counts; told = began.told }) in
+      record { on = began.on; reads = both.reads; counts = both.counts; told = both.told }
 
   -- the end of a later step is the end of the whole
   pub ends_from : (status : Status) → Ends status slots (Some (next a)) y z → Ends status slots (Some (and_then step next)) x z

@@ -8,13 +8,13 @@ use Rattle.lc_desk.specs.Desk.{DeskState, Files, Told, Later, OnlyReads, with_sl
 use Rattle.lc_tool.specs.declared.status.Source.{Source}
 use Rattle.lc_tool.specs.declared.status.Stop.{Stop}
 use Rattle.lc_tool.specs.declared.status.Stop.TheVariants.{Memory, Faulty, Absent, ReadFault, Long}
-use Rattle.lc_tool.specs.Course.{Course, Refusal, refuses, and_then, at_once, told}
+use Rattle.lc_tool.specs.Course.{Course, refuses, and_then, at_once, told}
 use Rattle.lc_tool.specs.Lines.{memory_line, absent_line, long_line, read_fault_line}
 use Rattle.lc_tool.specs.Outcome.{text_of, within}
 use Rattle.lc_tool.specs.Status.{source_code}
 use Rattle.lc_tool.specs.Noted.{Noted}
-use Rattle.lc_tool.specs.Stopped.{Gave, Went, IsFaultLine, StoppedBy, HasCause, Refuses, RefusedBy}
-use Rattle.lc_tool.proofs.Keeps.{with_note, said_since}
+use Rattle.lc_tool.specs.Stopped.{Gave, NoReadCounted, Went, IsFaultLine, StoppedBy, HasCause, Refuses, RefusedBy}
+use Rattle.lc_tool.proofs.Keeps.{counts_then, with_note, said_since}
 use Rattle.lc_tool.proofs.Courses.{told_as, told_both, told_always, reads_nothing, first_none, refuses_first, refuses_next, went_then}
 
 -- reads, and then a line on Note
@@ -27,12 +27,12 @@ noted_later line before mid now reads noted = record {
   said = said_since line before mid now (ap (λ s. s.note) reads.slots) reads.later noted.said;
 }
 
-pub cause_since : (stop : Stop) (before mid now : DeskState) → Later before mid → HasCause stop mid now → HasCause stop before now
-cause_since Memory before mid now later h = h
-cause_since (Faulty text) before mid now later h = h
-cause_since Absent before mid now later h = Rose-since _ _ _ later.absents h
-cause_since ReadFault before mid now later h = Rose-since _ _ _ later.reads h
-cause_since Long before mid now later h = Rose-since _ _ _ later.longs h
+pub cause_since : (stop : Stop) (before mid now : DeskState) → Later before mid → NoReadCounted before mid → HasCause stop mid now → HasCause stop before now
+cause_since Memory before mid now later counts h = counts_then before mid now counts h
+cause_since (Faulty text) before mid now later counts h = h
+cause_since Absent before mid now later counts h = Rose-since _ _ _ later.absents h
+cause_since ReadFault before mid now later counts h = Rose-since _ _ _ later.reads h
+cause_since Long before mid now later counts h = Rose-since _ _ _ later.longs h
 
 -- ---- one read
 
@@ -79,11 +79,11 @@ read_fault_stops limit name x y z reads asked rose noted same = record {
 }
 
 -- a read that found no memory, or read all
-pub short_stops : (limit : ℕ) (name : List ℕ) (x y z : DeskState) → OnlyReads x y → y.asked ≡ x.asked ++ name ∷ [] → Noted memory_line y z → z.asked ≡ y.asked → StoppedBy Memory (told (text_of limit name) x.held) x z
-short_stops limit name x y z reads asked noted same = record {
+pub short_stops : (limit : ℕ) (name : List ℕ) (x y z : DeskState) → OnlyReads x y → y.asked ≡ x.asked ++ name ∷ [] → Noted memory_line y z → z.asked ≡ y.asked → NoReadCounted x y → NoReadCounted y z → StoppedBy Memory (told (text_of limit name) x.held) x z
+short_stops limit name x y z reads asked noted same first later = record {
   line = memory_line;
   form = refl;
-  cause = tt;
+  cause = counts_then x y z first later;
   told = told_always x.held (text_of limit name) (Refuses Memory memory_line x z) (λ files. record { first = name ∷ []; rest = []; split = refl; read = same ∙ asked });
   noted = noted_later _ _ _ _ reads noted;
 }
@@ -91,11 +91,11 @@ short_stops limit name x y z reads asked noted same = record {
 -- ---- stops where nothing is read
 
 -- no memory
-pub memory_stops : {A : Type 0} (course : Files → Course A) (held : Option Files) (x y : DeskState) → Noted memory_line x y → y.asked ≡ x.asked → StoppedBy Memory (told course held) x y
-memory_stops course held x y noted same = record {
+pub memory_stops : {A : Type 0} (course : Files → Course A) (held : Option Files) (x y : DeskState) → Noted memory_line x y → y.asked ≡ x.asked → NoReadCounted x y → StoppedBy Memory (told course held) x y
+memory_stops course held x y noted same counts = record {
   line = memory_line;
   form = refl;
-  cause = tt;
+  cause = counts;
   told = told_always held course (Refuses Memory memory_line x y) (λ files. first_none (course files).reads x y same);
   noted = noted;
 }
@@ -131,21 +131,11 @@ stopped_then stop step next a x y z first stopped =
     record {
       line = stopped.line;
       form = stopped.form;
-      cause = cause_since stop x y z first.reads.later stopped.cause;
+      cause = cause_since stop x y z first.reads.later first.counts stopped.cause;
       told = told_both x.held step (λ files. next files a) (λ files. and_then (step files) (next files)) (Gave a x y) (Refuses stop stopped.line y z) (Refuses stop stopped.line x z)
           (λ files p h. refuses_next stop stopped.line x y z (step files) (next files) a p h) first.told told_now;
       noted = noted_later _ _ _ _ first.reads stopped.noted;
     }
-
--- a first step that went well, and then no memory
-pub memory_then : {A B : Type 0} (step : Files → Course A) (next : Files → A → Course B) (a : A) (x y z : DeskState) → Went (told step x.held) a x y → Noted memory_line y z → z.asked ≡ y.asked → StoppedBy Memory (told (λ files. and_then (step files) (next files)) x.held) x z
-memory_then step next a x y z first noted same = stopped_then Memory step next a x y z first (memory_stops (λ files. next files a) y.held y z noted same)
-
--- a text that was read, and that is refused
-pub text_then : {A : Type 0} (text : Source) (line : List ℕ) (step : Files → Course (List ℕ)) (next : List ℕ → Result A Refusal) (bytes : List ℕ) (x y z : DeskState) → Went (told step x.held) bytes x y → IsFaultLine text line → next bytes ≡ refuses (source_code text) line → Noted line y z → z.asked ≡ y.asked → StoppedBy (Faulty text) (told (λ files. and_then (step files) (λ bytes. at_once (next bytes))) x.held) x z
-text_then text line step next bytes x y z first form is noted same =
-    stopped_then (Faulty text) step (λ files bytes. at_once (next bytes)) bytes x y z first
-    (text_stops text line (λ files. at_once (next bytes)) y.held y z form (λ files. ap at_once is) noted same)
 
 -- ---- a later step, by its result
 

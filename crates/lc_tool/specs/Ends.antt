@@ -16,13 +16,14 @@ use Rattle.lc_tool.specs.Noted.{Said, Noted}
 use Rattle.lc_tool.specs.Words.{Command, command_of}
 use Rattle.lc_tool.specs.Work.{Work, calls_of}
 use Rattle.lc_tool.specs.Outcome.{outcome, slots_of, status_of}
-use Rattle.lc_tool.specs.Stopped.{Gave, ReadsFirst, StoppedBy, IsStopLine}
+use Rattle.lc_tool.specs.Stopped.{Gave, NoReadCounted, ReadsFirst, StoppedBy, IsStopLine}
 use Rattle.lc_tool.specs.Status.{code}
 
 -- what is to be written was read off the files: nothing but reads came before, and all calls are on these slots
 pub record Began (slots : List Slot) (course : Option (Course Work)) (work : Work) (before start : DeskState) : Type 0 where
   pub on : AreOn slots work.calls
   pub reads : OnlyReads before start
+  pub counts : NoReadCounted before start
   pub told : IfSome course (Gave work before start)
 
 -- all calls were made, and nothing else

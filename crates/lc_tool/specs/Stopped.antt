@@ -30,9 +30,16 @@ pub record Gave {A : Type 0} (a : A) (before now : DeskState) (course : Course A
   pub end : course.end ≡ Ok a
   pub read : Reads course.reads before now
 
+-- no read was counted as absent, as too long or as a fault
+pub record NoReadCounted (before now : DeskState) : Type 0 where
+  pub faults : now.faults.reads ≡ before.faults.reads
+  pub absents : now.absents ≡ before.absents
+  pub longs : now.longs ≡ before.longs
+
 -- a step went well: it gave what its course gives, it read the course's files, and did nothing else
 pub record Went {A : Type 0} (course : Option (Course A)) (a : A) (before now : DeskState) : Type 0 where
   pub reads : OnlyReads before now
+  pub counts : NoReadCounted before now
   pub told : IfSome course (Gave a before now)
 
 -- ---- stops
@@ -52,9 +59,9 @@ IsStopLine Absent line = (name : List ℕ) × (line ≡ absent_line name)
 IsStopLine ReadFault line = (name : List ℕ) × (line ≡ read_fault_line name)
 IsStopLine Long line = (name : List ℕ) × (limit : ℕ) × (line ≡ long_line limit name)
 
--- the count that a stop rests on rose
+-- the count that a stop rests on rose; want of memory is told only where no read was refused for another reason
 abbrev pub HasCause : Stop → DeskState → DeskState → Type 0
-HasCause Memory before now = Unit {0}
+HasCause Memory before now = NoReadCounted before now
 HasCause (Faulty text) before now = Unit {0}
 HasCause Absent before now = Rose before.absents now.absents
 HasCause ReadFault before now = Rose before.faults.reads now.faults.reads

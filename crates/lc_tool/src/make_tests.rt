@@ -1,5 +1,5 @@
 // Made scenes over a desk in memory.
-ghost use Rattle.std.specs.Prelude.{◌≤◌, IfOk, IsTrue, length};
+ghost use Rattle.std.specs.Prelude.{◌≤◌, IfOk, IfSome, IsTrue, length};
 ghost use Rattle.std.proofs.Common.{All};
 ghost use Rattle.lc_num.specs.Vectors.{Within};
 ghost use Rattle.lc_geom.specs.Triangles.{IsTri};
@@ -12,17 +12,15 @@ use lc_light::read_lights;
 use lc_make::make;
 use lc_num::{List, Memory, Vec3};
 use lc_obj::read_obj;
-use std::alloc::{AllocGlobal, Global};
+use std::alloc::Global;
 use std::process::Abort;
 use std::test::Fail;
 
-/// Makes the scene of a number, whose line on Report begins so.
-fn expect_made(rt: &(impl Abort + AllocGlobal), number: &str, desk: &mut MemoryDesk, report: &str) {
-    let words = ["make", number];
-    assert_eq!(rt; serve(rt.alloc(), &words, desk), 0, "of {number}");
+/// A scene was made, whose line on Report begins so.
+fn expect_made(rt: &impl Abort, desk: &MemoryDesk, report: &str) {
     assert!(rt;
         desk.told(Slot::Report).starts_with(report.as_bytes()),
-        "of {number}"
+        "{report}"
     );
     assert!(rt; desk.told(Slot::Report).ends_with(b"\n"));
     assert!(rt; desk.told(Slot::Picture).starts_with(b"P6\n32 24\n255\n"));
@@ -49,8 +47,17 @@ fn makes_scenes(rt: HostRuntime) -> Result<(), Fail> {
     ] {
         let mut first = MemoryDesk::new(rt.alloc());
         let mut second = MemoryDesk::new(rt.alloc());
-        expect_made(&rt, number, &mut first, report);
-        expect_made(&rt, number, &mut second, report);
+        assert_eq!(rt;
+            serve(rt.alloc(), &["make", number], &mut first),
+            0,
+            "of {number}"
+        );
+        assert_eq!(rt;
+            serve(rt.alloc(), &["make", number], &mut second),
+            0,
+            "of {number}"
+        );
+        expect_made(&rt, &first, report);
         for slot in [Slot::Picture, Slot::Bounds, Slot::Report] {
             assert!(rt; first.told(slot) == second.told(slot), "of {number}");
         }
@@ -104,19 +111,26 @@ fn in_range(place: Vec3) -> bool
         && place.z.unsigned_abs() <= 50_000_000
 }
 
-/// The triangles of a mesh, at most 1000.
+/// A triangle within the range of scenes.
+fn valid(tri: Tri) -> Option<Tri>
+    ensures { IfSome result IsTri }
+{
+    let Tri { a, b, c } = tri;
+    (in_range(a) && in_range(b) && in_range(c)).then_some(tri)
+}
+
+/// The triangles of a mesh.
 fn triangles(alloc: Global, text: &[u8]) -> Result<List<Tri>, Fail>
     requires { length text.now ≤ 536_870_912 }
-    ensures valid { IfOk result (All IsTri) }
-    ensures few { IfOk result (λ list. length list ≤ 1_000) }
+    ensures { IfOk result (All IsTri) }
 {
     let mesh = read_obj(alloc, text)?;
     let mut list = List::new(alloc);
     for face in mesh.faces.as_slice() {
-        let Tri { a, b, c } = face.tri;
-        if in_range(a) && in_range(b) && in_range(c) && list.as_slice().len() < 1_000 {
-            list.push(face.tri)?;
-        }
+        let Some(tri) = valid(face.tri) else {
+            return Err(Fail::from("a triangle is out of range"));
+        };
+        list.push(tri)?;
     }
     Ok(list)
 }

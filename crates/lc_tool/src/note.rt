@@ -2,6 +2,7 @@
 ghost use Rattle.std.specs.Prelude.{◌≡◌, ◌++◌};
 ghost use Rattle.lc_tool.specs.Lines.{memory_line, usage_line, absent_line, read_fault_line, long_line, fault_line, missing_line, slot_word, write_fault_line};
 ghost use Rattle.lc_tool.specs.Noted.{Noted};
+ghost use Rattle.lc_tool.specs.Stopped.{NoReadCounted};
 
 use crate::fixed::append;
 use arrayvec::ArrayString;
@@ -13,6 +14,7 @@ use lc_job::Key;
 fn note<D: Desk>(desk: &mut D, first: &str, second: &str)
     ensures noted { Noted (first.now ++ second.now) (D.state desk.old) (D.state desk.new) }
     ensures asked { (D.state desk.new).asked ≡ (D.state desk.old).asked }
+    ensures counts { NoReadCounted (D.state desk.old) (D.state desk.new) }
 {
     if desk.put(Slot::Note, first.as_bytes()).is_ok() {
         let _ = desk.put(Slot::Note, second.as_bytes());
@@ -22,6 +24,7 @@ fn note<D: Desk>(desk: &mut D, first: &str, second: &str)
 pub fn note_memory<D: Desk>(desk: &mut D)
     ensures noted { Noted memory_line (D.state desk.old) (D.state desk.new) }
     ensures asked { (D.state desk.new).asked ≡ (D.state desk.old).asked }
+    ensures counts { NoReadCounted (D.state desk.old) (D.state desk.new) }
 {
     note(desk, "out", " of memory\n");
 }

@@ -1,4 +1,5 @@
 use Rattle.std.proofs.Common.{rules, ◌∙◌}
+use Rattle.lc_tool.proofs.Keeps.{counts_then, note_counts}
 use Rattle.lc_tool.proofs.Noting.{noted_more, noted_refused, noted_put}
 use Rattle.lc_tool.proofs.note.note.Goals as goal
 
@@ -11,6 +12,13 @@ returns-then-is_ok-clause-noted g c =
 
 pub returns-then-is_ok-clause-asked : goal.returns-then-is_ok-clause-asked
 returns-then-is_ok-clause-asked g c = c.put-then-is_ok.ensures.same.asked ∙ c.put.ensures.same.asked
+
+pub returns-then-is_ok-clause-counts : goal.returns-then-is_ok-clause-counts
+returns-then-is_ok-clause-counts g c =
+    counts_then _ _ _ (note_counts c.put.result _ _ c.put.ensures.counted) (note_counts c.put-then-is_ok.result _ _ c.put-then-is_ok.ensures.counted)
+
+pub returns-else-is_ok-clause-counts : goal.returns-else-is_ok-clause-counts
+returns-else-is_ok-clause-counts g c = note_counts c.put.result _ _ c.put.ensures.counted
 
 pub returns-else-is_ok-clause-noted : goal.returns-else-is_ok-clause-noted
 returns-else-is_ok-clause-noted g c =

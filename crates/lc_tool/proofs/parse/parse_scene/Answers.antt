@@ -15,7 +15,7 @@ returns-in-Ok-clause-went g c =
     parsed (mesh_text c.args.name.now text) c.in-Ok.mesh _ (rw (none, mine) refl)
 
 pub returns-in-Err-Memory-clause-stopped : goal.returns-in-Err-Memory-clause-stopped
-returns-in-Err-Memory-clause-stopped g c = parse_short (mesh_text c.args.name.now c.args.text.now) _ _ c.note_memory.ensures.noted c.note_memory.ensures.asked
+returns-in-Err-Memory-clause-stopped g c = parse_short (mesh_text c.args.name.now c.args.text.now) _ _ c.note_memory.ensures.noted c.note_memory.ensures.asked c.note_memory.ensures.counts
 
 pub returns-in-Err-Fault-clause-stopped : goal.returns-in-Err-Fault-clause-stopped
 returns-in-Err-Fault-clause-stopped g c =

@@ -1,5 +1,6 @@
 use Rattle.std.proofs.Common.{rules}
 use Rattle.lc_tool.specs.Lines.{file_limit}
+use Rattle.lc_tool.proofs.Keeps.{short_counts}
 use Rattle.lc_tool.proofs.Stopping.{absent_stops, long_stops, read_fault_stops, short_stops}
 use Rattle.lc_tool.proofs.read.read_text.Goals as goal
 
@@ -22,3 +23,4 @@ pub returns-clause-stopped : goal.returns-clause-stopped
 returns-clause-stopped g c =
     let read = c.in-Err-Memory.ensures in
     short_stops file_limit c.args.name.now _ _ _ read.same read.asked c.note_memory.ensures.noted c.note_memory.ensures.asked
+    (short_counts _ _ _ (search rules) read.counted) c.note_memory.ensures.counts

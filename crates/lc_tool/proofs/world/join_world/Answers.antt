@@ -13,4 +13,4 @@ returns-in-Ok-clause-went g c =
 
 pub returns-in-Err-clause-stopped : goal.returns-in-Err-clause-stopped
 returns-in-Err-clause-stopped g c =
-    parse_short (at_once (Ok (world_by c.args.job c.args.mesh c.args.materials.now.items c.args.lights))) _ _ c.note_memory.ensures.noted c.note_memory.ensures.asked
+    parse_short (at_once (Ok (world_by c.args.job c.args.mesh c.args.materials.now.items c.args.lights))) _ _ c.note_memory.ensures.noted c.note_memory.ensures.asked c.note_memory.ensures.counts

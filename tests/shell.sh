@@ -6,6 +6,9 @@ program=$(realpath "${1:-$(dirname "$0")/../crates/lightcuts/out/lightcuts}") ||
 work=$(mktemp -d)
 trap 'chmod -R u+rwx "$work"; rm -rf "$work"' EXIT
 cd "$work" || exit 2
+# A copy that another user may run as well.
+chmod 755 "$work"
+cp "$program" lightcuts && chmod 755 lightcuts && program=$work/lightcuts || exit 2
 good=0 bad=0
 
 # case NAME STATUS OUTPUT NOTE COMMAND..: the command's standard output and error are files of these names
@@ -58,7 +61,6 @@ case_of 'standard output full' 9 '' 'report: write fault' full
 mute() { probe none.txt 2>&-; }
 case_of 'standard error closed' 7 '' '' mute
 if [ "$(id -u)" -eq 0 ]; then
-    chmod 755 "$work"
     as_nobody() { setpriv --reuid 65534 --clear-groups "$program" probe locked.txt 0 0 0 0 0 1; }
     case_of 'a file without leave to read' 8 '' 'locked.txt: read fault' as_nobody
 else
@@ -118,7 +120,7 @@ mkfifo fifo
 (cat l.txt >fifo &)
 case_of 'a fifo as the lights' 0 "$row" '' probe fifo
 job fifo b.lcb >tofifo.txt
-(cat fifo >fromfifo.ppm; echo done >fifodone) &
+cat fifo >fromfifo.ppm &
 case_of 'a fifo as the picture' 0 '' '' render tofifo.txt
 wait
 case_of 'the picture from the fifo' 0 '' '' cmp fromfifo.ppm wanted.ppm
@@ -169,9 +171,13 @@ case_of 'the picture of that scene' 0 '' '' cmp made.ppm once.ppm
 
 # a signal in the middle of a picture: both files are first parts of what a whole run leaves
 ended() {
+    rm -f made.ppm made.lcb
     "$program" make 39 >/dev/null &
     local run=$!
-    sleep 0.1
+    for _ in $(seq 500); do
+        [ -s made.lcb ] && break
+        sleep 0.01
+    done
     kill -TERM $run 2>/dev/null
     wait $run 2>/dev/null
     mv made.ppm part.ppm

@@ -1,47 +1,84 @@
 #!/usr/bin/env bash
-# Makes each allocation of a probe, of a render and of a plain picture fail in turn, one a run, and sees that each run gives
-# what it gives with ample memory, or status 1 and nothing on standard output. A command is over after three runs in a row that
-# no refusal reached. It prints how many runs of each were refused, and ends with 1 where one answered something else.
+# Makes each allocation of a probe, a render, a plain picture and a made scene fail in turn, one a run, by a library that stands
+# before the C library's. Each run has to give what it gives with ample memory, or status 1, `out of memory` or nothing on
+# standard error, nothing on standard output and no file but first parts of the right ones. It ends with 1 where a run did
+# something else. It takes a C compiler. Give the program's path, or run `rt run` in crates/lightcuts first.
 set -u
-cd "$(dirname "$0")/../crates/lightcuts" || exit 2
+program=$(realpath "${1:-$(dirname "$0")/../crates/lightcuts/out/lightcuts}") || exit 2
 work=$(mktemp -d)
 trap 'rm -rf "$work"' EXIT
-cp data/lights.txt "$work/lights.txt"
-printf 'scene s.obj\nlights l.txt\npicture p.ppm\nbounds b.lcb\neye 0 0 5\nat 0 0 0\nsize 1 1\n' >"$work/j.txt"
-printf 'mtllib m.mtl\nv -1 -1 0\nv 1 -1 0\nv 0 1 0\nusemtl a\nf 1 2 3\n' >"$work/s.obj"
-printf 'newmtl a\nKd 0.5\n' >"$work/m.mtl"
-printf 'point 0 0 1.0016 1 1 1\nsun 0 0 1 1 1 1\n' >"$work/l.txt"
+cd "$work" || exit 2
+cat >refuse.c <<'END'
+#include <stdio.h>
+#include <stdlib.h>
+extern void *__libc_malloc(size_t size);
+extern void *__libc_realloc(void *old, size_t size);
+static long count, refused = -1;
+static int is_refused(void)
+{
+    if (refused < 0)
+        refused = getenv("REFUSED") ? atol(getenv("REFUSED")) : 0;
+    return ++count == refused;
+}
+void *malloc(size_t size)
+{
+    return is_refused() ? NULL : __libc_malloc(size);
+}
+void *realloc(void *old, size_t size)
+{
+    return is_refused() ? NULL : __libc_realloc(old, size);
+}
+__attribute__((destructor)) static void tell(void)
+{
+    long all = count;
+    FILE *to = getenv("COUNTED") ? fopen(getenv("COUNTED"), "w") : NULL;
+    if (to) {
+        fprintf(to, "%ld\n", all);
+        fclose(to);
+    }
+}
+END
+cc -shared -fPIC -O1 -o refuse.so refuse.c || exit 2
+printf 'point 0 0 1 1 1 1\nsun 0 0 1 1 1 1\narea -2 4 4 4 0 0 0 0 4 20 20 20 30\n' >lights.txt
+printf 'scene s.obj\nlights lights.txt\npicture p.ppm\nbounds b.lcb\neye 0 0 5\nat 0 0 0\nsize 3 2\n' >j.txt
+printf 'mtllib m.mtl\nv -1 -1 0\nv 1 -1 0\nv 0 1 0\nusemtl a\nf 1 2 3\n' >s.obj
+printf 'newmtl a\nKd 0.5\n' >m.mtl
 passed=0 failed=0
 
-# refuse NAME OUTPUT FILES WORDS..: the files, with commas between them, and the words of the command
+# is_part FILE WHOLE: the file is not there, or is a first part of the other
+is_part() { [ ! -e "$1" ] || cmp -s -n "$(stat -c %s "$1")" "$1" "$2"; }
+
+# is_same FILE WHOLE: both files are the same, or neither is there
+is_same() { [ ! -e "$1" ] && [ ! -e "$2" ] || cmp -s "$1" "$2"; }
+
+# refuse PICTURE RECORD WORDS..: the words of a command, and the files that it writes, `none` for one that it does not
 refuse() {
-    local name=$1 wanted=$2 files=$3 data=() refused=0 whole=0 n=0 out status note
-    shift 3
-    for file in ${files//,/ }; do
-        data+=(--data "$file=$work/$file")
-    done
-    while [ $whole -lt 3 ]; do
-        n=$((n + 1))
-        out=$(rt try --fail-alloc $n "${data[@]}" -- "$@" 2>"$work/errors")
+    local picture=$1 record=$2 count n status told=0
+    shift 2
+    rm -rf whole && mkdir whole
+    (cd whole && ln -s ../*.txt ../s.obj ../m.mtl . && COUNTED=$work/count LD_PRELOAD=$work/refuse.so "$program" "$@" >out 2>err) ||
+        { echo "$*: not done with ample memory"; failed=$((failed + 1)); return; }
+    count=$(cat count)
+    for n in $(seq "$count"); do
+        rm -rf part && mkdir part
+        (cd part && ln -s ../*.txt ../s.obj ../m.mtl . && REFUSED=$n LD_PRELOAD=$work/refuse.so "$program" "$@" >out 2>err)
         status=$?
-        # What rt says of the run stands among the program's own lines on standard error.
-        note=$(grep -vE '^(allocations|checked|interpreter|run)[:=]' "$work/errors")
-        if [ $status -eq 0 ] && [ "$out" = "$wanted" ] && [ -z "$note" ]; then
-            whole=$((whole + 1))
-        elif [ $status -eq 1 ] && [ -z "$out" ] && { [ -z "$note" ] || [ "$note" = "out of memory" ]; }; then
-            refused=$((refused + 1)) whole=0
+        if [ $status -eq 0 ] && cmp -s part/out whole/out && [ ! -s part/err ] && is_same part/$picture whole/$picture && is_same part/$record whole/$record; then
+            passed=$((passed + 1))
+        elif [ $status -eq 1 ] && [ ! -s part/out ] && { [ ! -s part/err ] || [ "$(cat part/err)" = 'out of memory' ]; } &&
+            is_part part/$picture whole/$picture && is_part part/$record whole/$record; then
+            passed=$((passed + 1)) told=$((told + 1))
         else
-            echo "$name, allocation $n: status $status, output '$out', note '$note'"
             failed=$((failed + 1))
-            return
+            echo "$*, allocation $n: status $status, output '$(cat part/out)', note '$(cat part/err)'"
         fi
     done
-    echo "$name: $refused allocations refused in turn, status 1 each time and nothing on standard output"
-    passed=$((passed + refused))
+    echo "$*: $count allocations refused in turn, $told times status 1"
 }
 
-refuse probe "$(cat stdout)" lights.txt probe lights.txt 0 0 0 0 0 1
-refuse render '' j.txt,s.obj,m.mtl,l.txt render j.txt
-refuse plain '' j.txt,s.obj,m.mtl,l.txt plain j.txt
+refuse none none probe lights.txt 0 0 0 0 0 1
+refuse p.ppm b.lcb render j.txt
+refuse p.ppm none plain j.txt
+refuse made.ppm made.lcb make 0
 echo "$passed passed, $failed failed"
 [ $failed -eq 0 ]

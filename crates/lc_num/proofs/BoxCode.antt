@@ -41,7 +41,7 @@ near_code x lo hi a b c hx hb ea eb ec =
 
 -- ---- the greatest dot product
 
-product_small : (a b : ℤ) (m : ℕ) → m < 2 ^ 63 → unsigned_abs a * unsigned_abs b ≤ m → read w64 (a *ℤ b) ≡ a *ℤ b
+pub product_small : (a b : ℤ) (m : ℕ) → m < 2 ^ 63 → unsigned_abs a * unsigned_abs b ≤ m → read w64 (a *ℤ b) ≡ a *ℤ b
 product_small a b m limit small = read_small w64 (a *ℤ b) (rw unsigned_abs-mul (omega arith))
 
 -- the code of `greater_product` gives the greater of the two

@@ -108,7 +108,7 @@ max_below : (a b x y : ℤ) → a ≤ℤ x → b ≤ℤ y → int_max a b ≤ℤ
 max_below a b x y h k = omega (arith, ints, clamps)
 
 -- a product of numbers of two intervals is at most the greatest product of their ends
-between_four_products : (a_lo a_hi b_lo b_hi a b : ℤ) → (a_lo ≤ℤ a) × (a ≤ℤ a_hi) → (b_lo ≤ℤ b) × (b ≤ℤ b_hi) → (a *ℤ b) ≤ℤ greatest_product a_lo a_hi b_lo b_hi
+pub between_four_products : (a_lo a_hi b_lo b_hi a b : ℤ) → (a_lo ≤ℤ a) × (a ≤ℤ a_hi) → (b_lo ≤ℤ b) × (b ≤ℤ b_hi) → (a *ℤ b) ≤ℤ greatest_product a_lo a_hi b_lo b_hi
 between_four_products a_lo a_hi b_lo b_hi a b ha hb =
     let turned : (a *ℤ b) ≤ℤ int_max (a_lo *ℤ b) (a_hi *ℤ b) = rw (*ℤ_comm b a, *ℤ_comm b a_lo, *ℤ_comm b a_hi) at (between_products b a_lo a_hi a ha.0 ha.1) in
     ≤ℤ_trans (a *ℤ b) (int_max (a_lo *ℤ b) (a_hi *ℤ b)) (greatest_product a_lo a_hi b_lo b_hi) turned

@@ -16,15 +16,15 @@ use Rattle.lc_num.proofs.SquareLemmas.{schwarz}
 use Rattle.lc_num.proofs.ScaledLemmas.{eqb_no}
 use Rattle.lc_num.proofs.BoxLemmas.{dot_below_greatest, dot_below_greatest_of_boxes}
 
-positive_sign : (z : ℤ) → int_lt (pos 0) z ≡ true → 0 < unsigned_abs z
+pub positive_sign : (z : ℤ) → int_lt (pos 0) z ≡ true → 0 < unsigned_abs z
 positive_sign (pos n) h = grind (arith, nat_tests)
 positive_sign (negsuc n) h = cc
 
-positive_above : (a b : ℤ) → int_lt (pos 0) a ≡ true → a ≤ℤ b → (int_lt (pos 0) b ≡ true) × (unsigned_abs a ≤ unsigned_abs b)
+pub positive_above : (a b : ℤ) → int_lt (pos 0) a ≡ true → a ≤ℤ b → (int_lt (pos 0) b ≡ true) × (unsigned_abs a ≤ unsigned_abs b)
 positive_above a b h k = (grind (arith, ints), omega (arith, ints))
 
 -- the root of a positive dot product, which the inequality of Cauchy and Schwarz bounds
-own_root : (n b : Vec3) → 0 < unsigned_abs (dot n b) → (0 < square n * square b) × (ratio_root (square n * square b) (2 ^ 32 * (unsigned_abs (dot n b) * unsigned_abs (dot n b))) ≤ 65536)
+pub own_root : (n b : Vec3) → 0 < unsigned_abs (dot n b) → (0 < square n * square b) × (ratio_root (square n * square b) (2 ^ 32 * (unsigned_abs (dot n b) * unsigned_abs (dot n b))) ≤ 65536)
 own_root n b some =
     let cauchy = schwarz n b in
     let least = mul-le 1 1 (unsigned_abs (dot n b)) (unsigned_abs (dot n b)) some some in

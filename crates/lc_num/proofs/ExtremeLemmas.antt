@@ -7,7 +7,7 @@ use Rattle.lc_algebra.proofs.Machine.{read}
 use Rattle.lc_num.specs.Vectors.{Within, greater, lesser}
 use Rattle.lc_num.specs.declared.vectors.Vec3.{Vec3}
 
-min_small : (a b : ℤ) (m : ℕ) → unsigned_abs a ≤ m → unsigned_abs b ≤ m → unsigned_abs (int_min a b) ≤ m
+pub min_small : (a b : ℤ) (m : ℕ) → unsigned_abs a ≤ m → unsigned_abs b ≤ m → unsigned_abs (int_min a b) ≤ m
 min_small a b m ha hb = omega (arith, ints, clamps)
 
 pub max_small : (a b : ℤ) (m : ℕ) → unsigned_abs a ≤ m → unsigned_abs b ≤ m → unsigned_abs (int_max a b) ≤ m

@@ -1,11 +1,14 @@
 pub mod Triples
 pub mod CrossLemmas
 pub mod SquareLemmas
+pub mod RootLemmas
 pub mod ScaledLemmas
 pub mod CosineLemmas
 pub mod DifferenceLemmas
 pub mod ExtremeLemmas
 pub mod BoxLemmas
 pub mod CosineLaw
+pub mod CrossLaw
 pub mod BoxCode
+pub mod CrossCode
 pub mod PowerLemmas

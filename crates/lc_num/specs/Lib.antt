@@ -4,4 +4,6 @@ pub mod Cosines
 pub mod Powers
 pub mod Channels
 pub mod Boxes
+pub mod Crosses
+pub mod Rules
 pub mod Faults

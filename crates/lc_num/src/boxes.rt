@@ -68,7 +68,7 @@ fn greater_product(n: i64, lo: i64, hi: i64) -> i64
 }
 
 /// The greatest dot product of `n` with a point of the box.
-fn greatest_dot(n: Vec3, span: Span3) -> i64
+pub(crate) fn greatest_dot(n: Vec3, span: Span3) -> i64
     requires { CanBound n span }
     ensures value { result ≡ greatest_dot n span }
     ensures most { unsigned_abs result ≤ 3 * (16384 * 100_100_000) }
@@ -106,7 +106,7 @@ fn greatest_product(a_lo: i64, a_hi: i64, b_lo: i64, b_hi: i64) -> i64
 }
 
 /// The greatest dot product of a vector of the one box and a vector of the other.
-fn greatest_dot_of_boxes(a: Span3, b: Span3) -> i64
+pub(crate) fn greatest_dot_of_boxes(a: Span3, b: Span3) -> i64
     requires a { IsBoxWithin 16384 a }
     requires b { IsBoxWithin 100_100_000 b }
     ensures value { result ≡ greatest_dot_of_boxes a b }

@@ -1,4 +1,5 @@
-// Guesses of roots, by a table and multiplications alone. Their users set them right, so a guess decides only the speed.
+// Guesses of roots, by a table and multiplications alone. Their users set them right in a bounded number of steps, so a
+// guess decides only the speed.
 ghost use Rattle.std.specs.Prelude.{◌^◌, ◌<◌, ◌≤◌};
 
 // `2^15 / sqrt(p)`, for p at the middle of each 256th from 64/256 on.

@@ -387,6 +387,105 @@ fn emission_bounds_at_the_limits(rt: HostRuntime) {
 }
 
 #[test]
+fn sharper_cosine_bounds(rt: HostRuntime) {
+    let up = Vec3 {
+        x: 0,
+        y: 0,
+        z: 16384,
+    };
+    let down = Vec3 {
+        x: 0,
+        y: 0,
+        z: -16384,
+    };
+    let aside = Span3 {
+        lo: Vec3 {
+            x: 10000,
+            y: 0,
+            z: 0,
+        },
+        hi: Vec3 {
+            x: 10000,
+            y: 0,
+            z: 10000,
+        },
+    };
+    // The box is at least as far aside as it is high: 1 / sqrt(2).
+    assert_eq!(rt; cos_top(up, aside, 100_000_000), 65536);
+    assert_eq!(rt; cos_top2(up, aside, 100_000_000), 46340);
+    assert_eq!(rt; cos_top2(up, aside, 0), 46340);
+    assert_eq!(rt; cos_top2(down, aside, 0), 0);
+    // The products add up to 82, and the components of the cross product are from -76 to -36, -9 to 15 and 10 to 20:
+    // 82 / sqrt(82^2 + 36^2 + 10^2), and 82 / sqrt(169 * 60).
+    let slant = Vec3 { x: 3, y: -4, z: 12 };
+    let over = Span3 {
+        lo: Vec3 { x: 1, y: 2, z: 3 },
+        hi: Vec3 { x: 2, y: 4, z: 7 },
+    };
+    assert_eq!(rt; cos_top2(slant, over, 14), 59636);
+    assert_eq!(rt; cos_top2(slant, over, 60), 53367);
+    // A long normal and components from -5 to -2 and from -3 to -2: 3 / sqrt(9 + 4 + 4).
+    let long = Vec3 {
+        x: 100_000_000,
+        y: 0,
+        z: 0,
+    };
+    let short = Span3 {
+        lo: Vec3 { x: 1, y: -3, z: 2 },
+        hi: Vec3 { x: 3, y: -2, z: 5 },
+    };
+    assert_eq!(rt; cos_top2(long, short, 9), 47684);
+}
+
+#[test]
+fn sharper_emission_bounds(rt: HostRuntime) {
+    let up = Vec3 {
+        x: 0,
+        y: 0,
+        z: 16384,
+    };
+    let one = Span3 { lo: up, hi: up };
+    let aside = Span3 {
+        lo: Vec3 {
+            x: 10000,
+            y: 0,
+            z: 0,
+        },
+        hi: Vec3 {
+            x: 10000,
+            y: 0,
+            z: 10000,
+        },
+    };
+    let below = Span3 {
+        lo: Vec3 {
+            x: 10000,
+            y: 0,
+            z: -1,
+        },
+        hi: Vec3 {
+            x: 10000,
+            y: 0,
+            z: 0,
+        },
+    };
+    assert_eq!(rt; emit_top2(one, 268_435_456, aside, 100_000_000), 46340);
+    assert_eq!(rt; emit_top2(one, 268_435_456, below, 0), 0);
+    // The products add up to 15, and the components of the cross product are from -27 to -17, -23 to 1 and 13 to 32:
+    // 15 / sqrt(15^2 + 17^2 + 13^2), and 15 / sqrt(26 * 30).
+    let normals = Span3 {
+        lo: Vec3 { x: 3, y: -1, z: 4 },
+        hi: Vec3 { x: 5, y: 1, z: 4 },
+    };
+    let offsets = Span3 {
+        lo: Vec3 { x: -2, y: 5, z: -1 },
+        hi: Vec3 { x: -1, y: 6, z: 3 },
+    };
+    assert_eq!(rt; emit_top2(normals, 26, offsets, 26), 37614);
+    assert_eq!(rt; emit_top2(normals, 26, offsets, 30), 35198);
+}
+
+#[test]
 fn extremes(rt: HostRuntime) {
     let a = Vec3 { x: 1, y: -2, z: 3 };
     let b = Vec3 { x: -4, y: 5, z: 3 };

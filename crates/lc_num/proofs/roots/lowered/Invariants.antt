@@ -1,8 +1,5 @@
-use Rattle.std.proofs.Common.{◌≤◌}
+use Rattle.std.proofs.Common.{◌≡◌, ◌+◌, ◌≤◌}
 use Rattle.lc_num.proofs.roots.lowered.Given as goal
 
-abbrev pub invariant-loop-root : goal.invariant-loop-root
-invariant-loop-root l = l.root ≤ l.guess
-
-abbrev pub decreases-loop-root : goal.decreases-loop-root
-decreases-loop-root l = l.root
+abbrev pub invariant-loop : goal.invariant-loop
+invariant-loop g l = record { most : l.root ≤ l.guess; steps : l.steps ≡ l.fn.steps + l.counter }

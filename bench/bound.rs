@@ -182,6 +182,54 @@ fn cos_top(n: Vec3, span: Span3, least: u128) -> u32 {
     cosine_at_most(greatest_dot(n, span), short_square(n) as u128 * (least as u64) as u128)
 }
 
+#[derive(Clone, Copy)]
+struct Between {
+    lo: i64,
+    hi: i64,
+}
+
+fn multiples(n: i64, lo: i64, hi: i64) -> Between {
+    let a = n * lo;
+    let b = n * hi;
+    Between { lo: a.min(b), hi: a.max(b) }
+}
+
+fn products(a_lo: i64, a_hi: i64, b_lo: i64, b_hi: i64) -> Between {
+    let p = multiples(a_lo, b_lo, b_hi);
+    let q = multiples(a_hi, b_lo, b_hi);
+    Between { lo: p.lo.min(q.lo), hi: p.hi.max(q.hi) }
+}
+
+fn least_difference(p: Between, q: Between) -> u128 {
+    let nearest = (p.lo - q.hi).max(q.lo - p.hi).max(0) as u128;
+    nearest * nearest
+}
+
+fn least_cross(n: Vec3, span: Span3) -> u128 {
+    least_difference(multiples(n.y, span.lo.z, span.hi.z), multiples(n.z, span.lo.y, span.hi.y))
+        + least_difference(multiples(n.z, span.lo.x, span.hi.x), multiples(n.x, span.lo.z, span.hi.z))
+        + least_difference(multiples(n.x, span.lo.y, span.hi.y), multiples(n.y, span.lo.x, span.hi.x))
+}
+
+fn least_cross_of_boxes(a: Span3, b: Span3) -> u128 {
+    least_difference(products(a.lo.y, a.hi.y, b.lo.z, b.hi.z), products(a.lo.z, a.hi.z, b.lo.y, b.hi.y))
+        + least_difference(products(a.lo.z, a.hi.z, b.lo.x, b.hi.x), products(a.lo.x, a.hi.x, b.lo.z, b.hi.z))
+        + least_difference(products(a.lo.x, a.hi.x, b.lo.y, b.hi.y), products(a.lo.y, a.hi.y, b.lo.x, b.hi.x))
+}
+
+fn lesser_cosine(along: i64, squares: u128, across: u128) -> u32 {
+    let own = along as u128 * along as u128;
+    cosine_at_most(along, squares.max(own + across))
+}
+
+fn cos_top2(n: Vec3, span: Span3, least: u128) -> u32 {
+    let along = greatest_dot(n, span);
+    if along <= 0 {
+        return 0;
+    }
+    lesser_cosine(along, short_square(n) as u128 * (least as u64) as u128, least_cross(n, span))
+}
+
 fn greatest_product(a_lo: i64, a_hi: i64, b_lo: i64, b_hi: i64) -> i64 {
     greater_product(a_lo, b_lo, b_hi).max(greater_product(a_hi, b_lo, b_hi))
 }
@@ -194,6 +242,34 @@ fn greatest_dot_of_boxes(a: Span3, b: Span3) -> i64 {
 
 fn emit_top(normals: Span3, least_n: u64, offsets: Span3, least_d: u64) -> u32 {
     cosine_at_most(greatest_dot_of_boxes(normals, offsets), least_n as u128 * least_d as u128)
+}
+
+fn emit_top2(normals: Span3, least_n: u64, offsets: Span3, least_d: u64) -> u32 {
+    let along = greatest_dot_of_boxes(normals, offsets);
+    if along <= 0 {
+        return 0;
+    }
+    lesser_cosine(along, least_n as u128 * least_d as u128, least_cross_of_boxes(normals, offsets))
+}
+
+#[derive(Clone, Copy)]
+enum Rule {
+    One,
+    Two,
+}
+
+fn cosine_top(n: Vec3, span: Span3, least: u128, rule: Rule) -> u32 {
+    match rule {
+        Rule::One => cos_top(n, span, least),
+        Rule::Two => cos_top2(n, span, least),
+    }
+}
+
+fn emission_top(normals: Span3, least_n: u64, offsets: Span3, least_d: u64, rule: Rule) -> u32 {
+    match rule {
+        Rule::One => emit_top(normals, least_n, offsets, least_d),
+        Rule::Two => emit_top2(normals, least_n, offsets, least_d),
+    }
 }
 
 fn difference(a: Vec3, b: Vec3) -> Vec3 {
@@ -240,12 +316,12 @@ struct Reflection {
     highlight: u32,
 }
 
-fn reflection_top(spot: &Spot, span: Span3, least: u128) -> Option<Reflection> {
-    let cosine = cos_top(spot.n, span, least);
+fn reflection_top(spot: &Spot, span: Span3, least: u128, rule: Rule) -> Option<Reflection> {
+    let cosine = cosine_top(spot.n, span, least, rule);
     if cosine == 0 {
         return None;
     }
-    let highlight = if is_black(spot.ks) { 0 } else { pow16(cos_top(spot.r, span, least), spot.ns) };
+    let highlight = if is_black(spot.ks) { 0 } else { pow16(cosine_top(spot.r, span, least, rule), spot.ns) };
     Some(Reflection { cosine, highlight })
 }
 
@@ -280,21 +356,21 @@ fn material(spot: &Spot, b: Vec3) -> Rgb {
     }
 }
 
-fn top(spot: &Spot, clump: &OmniClump) -> Rgb {
+fn top(spot: &Spot, clump: &OmniClump, rule: Rule) -> Rgb {
     let near = near2(spot.x, clump.span);
-    let Some(reflection) = reflection_top(spot, box_from(spot.x, clump.span), near) else {
+    let Some(reflection) = reflection_top(spot, box_from(spot.x, clump.span), near, rule) else {
         return Rgb { r: 0, g: 0, b: 0 };
     };
     scaled_total(falloff(near as u64), spot, reflection, clump.total)
 }
 
-fn oriented_top(spot: &Spot, clump: &OrientedClump) -> Rgb {
+fn oriented_top(spot: &Spot, clump: &OrientedClump, rule: Rule) -> Rgb {
     let near = near2(spot.x, clump.span);
-    let Some(reflection) = reflection_top(spot, box_from(spot.x, clump.span), near) else {
+    let Some(reflection) = reflection_top(spot, box_from(spot.x, clump.span), near, rule) else {
         return Rgb { r: 0, g: 0, b: 0 };
     };
     let offsets = box_to(spot.x, clump.span);
-    let emission = emit_top(clump.normals, clump.least as u64, offsets, near as u64);
+    let emission = emission_top(clump.normals, clump.least as u64, offsets, near as u64, rule);
     if emission == 0 {
         return Rgb { r: 0, g: 0, b: 0 };
     }
@@ -400,12 +476,12 @@ fn plus(total: u128, top: Rgb) -> u128 {
     total.wrapping_add(top.r).wrapping_add(top.g).wrapping_add(top.b)
 }
 
-fn add_tops(sum: u128, cases: &[(Spot, OmniClump)]) -> u128 {
-    cases.iter().fold(sum, |total, (spot, clump)| plus(total, top(spot, clump)))
+fn add_tops(sum: u128, cases: &[(Spot, OmniClump)], rule: Rule) -> u128 {
+    cases.iter().fold(sum, |total, (spot, clump)| plus(total, top(spot, clump, rule)))
 }
 
-fn add_oriented_tops(sum: u128, cases: &[(Spot, OrientedClump)]) -> u128 {
-    cases.iter().fold(sum, |total, (spot, clump)| plus(total, oriented_top(spot, clump)))
+fn add_oriented_tops(sum: u128, cases: &[(Spot, OrientedClump)], rule: Rule) -> u128 {
+    cases.iter().fold(sum, |total, (spot, clump)| plus(total, oriented_top(spot, clump, rule)))
 }
 
 fn add_materials(sum: u128, reflections: &[(Spot, Vec3)]) -> u128 {
@@ -458,21 +534,27 @@ fn main() {
         })
         .collect();
 
-    let start = Instant::now();
-    let sum = (0..rounds).fold(0, |sum, _| add_tops(sum, &cases));
-    report(timed, "top", sum, start);
+    for (rule, name) in [(Rule::One, "top"), (Rule::Two, "top_2")] {
+        let start = Instant::now();
+        let sum = (0..rounds).fold(0, |sum, _| add_tops(sum, &cases, rule));
+        report(timed, name, sum, start);
+    }
 
-    let start = Instant::now();
-    let sum = (0..rounds).fold(0, |sum, _| add_oriented_tops(sum, &oriented_cases));
-    report(timed, "oriented", sum, start);
+    for (rule, name) in [(Rule::One, "oriented"), (Rule::Two, "oriented_2")] {
+        let start = Instant::now();
+        let sum = (0..rounds).fold(0, |sum, _| add_oriented_tops(sum, &oriented_cases, rule));
+        report(timed, name, sum, start);
+    }
 
     let start = Instant::now();
     let sum = (0..rounds).fold(0, |sum, _| add_emissions(sum, &emissions));
     report(timed, "emit_top", sum, start);
 
-    let start = Instant::now();
-    let sum = (0..rounds).fold(0, |sum, _| add_tops(sum, &shiny_cases));
-    report(timed, "shiny", sum, start);
+    for (rule, name) in [(Rule::One, "shiny"), (Rule::Two, "shiny_2")] {
+        let start = Instant::now();
+        let sum = (0..rounds).fold(0, |sum, _| add_tops(sum, &shiny_cases, rule));
+        report(timed, name, sum, start);
+    }
 
     let start = Instant::now();
     let sum = (0..rounds).fold(0, |sum, _| add_materials(sum, &reflections));

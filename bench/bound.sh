@@ -22,6 +22,6 @@ done | awk -v calls=$((rounds * 1024)) '
     END {
         for (term in terms) {
             p = best["proved " term] / calls; q = best["plain " term] / calls
-            printf "%-8s proved %6.1f ns  plain %6.1f ns  ratio %.2f\n", term, p, q, p / q
+            printf "%-10s proved %6.1f ns  plain %6.1f ns  ratio %.2f\n", term, p, q, p / q
         }
     }' | sort

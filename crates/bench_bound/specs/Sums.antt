@@ -2,6 +2,7 @@
 use Rattle.std.specs.Prelude.{ℕ, ◌+◌}
 use Rattle.lc_num.specs.Boxes.{emit_top}
 use Rattle.lc_num.specs.declared.channels.Rgb.{Rgb}
+use Rattle.lc_num.specs.declared.rules.Rule.{Rule}
 use Rattle.lc_terms.specs.Factor.{material}
 use Rattle.lc_bound.specs.Omni.{top}
 use Rattle.lc_bound.specs.Oriented.{top as oriented_top}
@@ -14,11 +15,11 @@ use Rattle.bench_bound.specs.declared.inputs.Reflection.{Reflection}
 abbrev channels : Rgb → ℕ
 channels c = c.r + c.g + c.b
 
-abbrev pub top_sum : Case → ℕ
-top_sum k = channels (top k.spot k.clump)
+abbrev pub top_sum : Rule → Case → ℕ
+top_sum r k = channels (top k.spot k.clump r)
 
-abbrev pub oriented_sum : OrientedCase → ℕ
-oriented_sum k = channels (oriented_top k.spot k.clump)
+abbrev pub oriented_sum : Rule → OrientedCase → ℕ
+oriented_sum r k = channels (oriented_top k.spot k.clump r)
 
 abbrev pub material_sum : Reflection → ℕ
 material_sum l = channels (material l.spot l.b)

@@ -8,6 +8,7 @@ mod rounds;
 
 use crate::inputs::Random;
 use anyhow::Result;
+use lc_num::Rule;
 use std::env;
 use std::time::Instant;
 
@@ -53,21 +54,27 @@ fn main(rt: HostRuntime) -> Result<()> {
     let shiny_cases = inputs::shiny_cases(alloc, &mut random)?;
     let reflections = inputs::reflections(alloc, &mut random)?;
 
-    let start = Instant::now(&rt)?;
-    let sum = rounds::tops(order.rounds, cases.as_slice());
-    report(&rt, &order, "top", sum, start)?;
+    for (rule, bound) in [(Rule::One, "top"), (Rule::Two, "top_2")] {
+        let start = Instant::now(&rt)?;
+        let sum = rounds::tops(order.rounds, cases.as_slice(), rule);
+        report(&rt, &order, bound, sum, start)?;
+    }
 
-    let start = Instant::now(&rt)?;
-    let sum = rounds::oriented_tops(order.rounds, oriented_cases.as_slice());
-    report(&rt, &order, "oriented", sum, start)?;
+    for (rule, bound) in [(Rule::One, "oriented"), (Rule::Two, "oriented_2")] {
+        let start = Instant::now(&rt)?;
+        let sum = rounds::oriented_tops(order.rounds, oriented_cases.as_slice(), rule);
+        report(&rt, &order, bound, sum, start)?;
+    }
 
     let start = Instant::now(&rt)?;
     let sum = rounds::emissions(order.rounds, emissions.as_slice());
     report(&rt, &order, "emit_top", sum, start)?;
 
-    let start = Instant::now(&rt)?;
-    let sum = rounds::tops(order.rounds, shiny_cases.as_slice());
-    report(&rt, &order, "shiny", sum, start)?;
+    for (rule, bound) in [(Rule::One, "shiny"), (Rule::Two, "shiny_2")] {
+        let start = Instant::now(&rt)?;
+        let sum = rounds::tops(order.rounds, shiny_cases.as_slice(), rule);
+        report(&rt, &order, bound, sum, start)?;
+    }
 
     let start = Instant::now(&rt)?;
     let sum = rounds::materials(order.rounds, reflections.as_slice());

@@ -4,7 +4,7 @@ ghost use Rattle.bench_bound.specs.Sums.{emission_of, material_sum, oriented_sum
 
 use crate::inputs::{Case, Emission, OrientedCase, Reflection};
 use lc_bound::{OmniKind, OrientedKind};
-use lc_num::{Rgb, emit_top};
+use lc_num::{Rgb, Rule, emit_top};
 use lc_terms::{Kind, material};
 
 /// A number and the three channels of a bound.
@@ -16,22 +16,22 @@ fn plus(sum: u128, top: Rgb) -> u128
         .wrapping_add(top.b)
 }
 
-fn add_tops(sum: u128, cases: &[Case]) -> u128
-    ensures { result ≡ (sum + sum_by top_sum cases.now) % 2 ^ 128 }
+fn add_tops(sum: u128, cases: &[Case], rule: Rule) -> u128
+    ensures { result ≡ (sum + sum_by (top_sum rule) cases.now) % 2 ^ 128 }
 {
     let mut total = sum;
     for case in cases {
-        total = plus(total, OmniKind::top(&case.spot, &case.clump));
+        total = plus(total, OmniKind::top(&case.spot, &case.clump, rule));
     }
     total
 }
 
-fn add_oriented_tops(sum: u128, cases: &[OrientedCase]) -> u128
-    ensures { result ≡ (sum + sum_by oriented_sum cases.now) % 2 ^ 128 }
+fn add_oriented_tops(sum: u128, cases: &[OrientedCase], rule: Rule) -> u128
+    ensures { result ≡ (sum + sum_by (oriented_sum rule) cases.now) % 2 ^ 128 }
 {
     let mut total = sum;
     for case in cases {
-        total = plus(total, OrientedKind::top(&case.spot, &case.clump));
+        total = plus(total, OrientedKind::top(&case.spot, &case.clump, rule));
     }
     total
 }
@@ -57,20 +57,20 @@ fn add_emissions(sum: u128, emissions: &[Emission]) -> u128
     total
 }
 
-/// The sum of the bounds in all rounds.
-pub fn tops(rounds: u32, cases: &[Case]) -> u128 {
+/// The sum of the bounds under a rule in all rounds.
+pub fn tops(rounds: u32, cases: &[Case], rule: Rule) -> u128 {
     let mut sum = 0;
     for _ in 0..rounds {
-        sum = add_tops(sum, cases);
+        sum = add_tops(sum, cases, rule);
     }
     sum
 }
 
-/// The sum of the bounds of oriented lights in all rounds.
-pub fn oriented_tops(rounds: u32, cases: &[OrientedCase]) -> u128 {
+/// The sum of the bounds of oriented lights under a rule in all rounds.
+pub fn oriented_tops(rounds: u32, cases: &[OrientedCase], rule: Rule) -> u128 {
     let mut sum = 0;
     for _ in 0..rounds {
-        sum = add_oriented_tops(sum, cases);
+        sum = add_oriented_tops(sum, cases, rule);
     }
     sum
 }

@@ -5,13 +5,14 @@ ghost use Rattle.lc_cut.specs.Forest.{light_count, lights_of};
 use crate::inputs::Random;
 use lc_cut::{Ask, Bench, Forest, cut};
 use lc_hier::Plain;
-use lc_num::Steps;
+use lc_num::{Rule, Steps};
 use std::marker::Brand;
 use std::sync::ledger::{Blank, Ledger};
 
 const ASK: Ask = Ask {
     permille: 20,
     size: 1000,
+    rule: Rule::One,
 };
 
 /// How many lights were evaluated, and a checksum of estimates and bounds.

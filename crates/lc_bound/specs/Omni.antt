@@ -6,6 +6,7 @@ use Rattle.lc_num.specs.Boxes.{Ends, IsBoxWithin, IsInside, near2}
 use Rattle.lc_num.specs.declared.vectors.Vec3.{Vec3}
 use Rattle.lc_num.specs.declared.channels.Rgb.{Rgb}
 use Rattle.lc_num.specs.declared.channels.Power.{Power}
+use Rattle.lc_num.specs.declared.rules.Rule.{Rule}
 use Rattle.lc_light.specs.Lights.{IsOmni}
 use Rattle.lc_light.specs.declared.lights.Omni.{Omni}
 use Rattle.lc_terms.specs.Channels.{times, by_power, power_plus}
@@ -58,11 +59,11 @@ abbrev pub total_of : Clump → Power
 total_of c = c.total
 
 -- the material bound and the geometric bound at the least distance to the box
-abbrev pub reach : Spot → Clump → Rgb
-reach spot c = times (falloff (near2 spot.x c.box)) (material_top spot (box_from spot.x c.box) (near2 spot.x c.box))
+abbrev pub reach : Spot → Clump → Rule → Rgb
+reach spot c r = times (falloff (near2 spot.x c.box)) (material_top spot (box_from spot.x c.box) (near2 spot.x c.box) r)
 
-abbrev pub top : Spot → Clump → Rgb
-top spot c = by_power (reach spot c) c.total
+abbrev pub top : Spot → Clump → Rule → Rgb
+top spot c r = by_power (reach spot c r) c.total
 
 abbrev pub omni_meaning : Meaning Omni Clump
 omni_meaning = record {

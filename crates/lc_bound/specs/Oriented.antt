@@ -3,17 +3,18 @@ use Rattle.std.specs.Prelude.{ℕ, ◌+◌, ◌*◌, ◌≤◌, ◌^◌, min}
 use Rattle.lc_num.specs.Channels.{IsPowerWithin}
 use Rattle.lc_num.specs.Cosines.{cos16}
 use Rattle.lc_num.specs.Vectors.{difference, square}
-use Rattle.lc_num.specs.Boxes.{Ends, IsBoxWithin, IsInside, emit_top, near2}
+use Rattle.lc_num.specs.Boxes.{Ends, IsBoxWithin, IsInside, near2}
 use Rattle.lc_num.specs.declared.vectors.Vec3.{Vec3}
 use Rattle.lc_num.specs.declared.channels.Rgb.{Rgb}
 use Rattle.lc_num.specs.declared.channels.Power.{Power}
+use Rattle.lc_num.specs.declared.rules.Rule.{Rule}
 use Rattle.lc_light.specs.Lights.{IsOriented}
 use Rattle.lc_light.specs.declared.lights.Oriented.{Oriented}
 use Rattle.lc_terms.specs.Channels.{times, by_power, power_plus}
 use Rattle.lc_terms.specs.Kind.{Meaning}
 use Rattle.lc_terms.specs.declared.spot.Spot.{Spot}
 use Rattle.lc_bound.specs.Hull.{point_box, hull, box_from, box_to}
-use Rattle.lc_bound.specs.Reach.{emitted, falloff, material_top}
+use Rattle.lc_bound.specs.Reach.{emission_top, emitted, falloff, material_top}
 
 -- the box of the lights' places, the box of their normals, the least squared length of a normal, their summed
 -- intensity, and how many they are
@@ -79,15 +80,15 @@ abbrev pub total_of : Clump → Power
 total_of c = c.total
 
 -- the greatest cosine at which light leaves toward x, and the geometric bound at the least distance to the box
-abbrev pub geometry_top : Vec3 → Clump → ℕ
-geometry_top x c = emitted (emit_top c.normals c.least (box_to x c.box) (near2 x c.box)) (falloff (near2 x c.box))
+abbrev pub geometry_top : Vec3 → Clump → Rule → ℕ
+geometry_top x c r = emitted (emission_top r c.normals c.least (box_to x c.box) (near2 x c.box)) (falloff (near2 x c.box))
 
 -- the material bound and the geometric bound
-abbrev pub reach : Spot → Clump → Rgb
-reach spot c = times (geometry_top spot.x c) (material_top spot (box_from spot.x c.box) (near2 spot.x c.box))
+abbrev pub reach : Spot → Clump → Rule → Rgb
+reach spot c r = times (geometry_top spot.x c r) (material_top spot (box_from spot.x c.box) (near2 spot.x c.box) r)
 
-abbrev pub top : Spot → Clump → Rgb
-top spot c = by_power (reach spot c) c.total
+abbrev pub top : Spot → Clump → Rule → Rgb
+top spot c r = by_power (reach spot c r) c.total
 
 abbrev pub oriented_meaning : Meaning Oriented Clump
 oriented_meaning = record {

@@ -1,12 +1,14 @@
 -- The laws of the kind of oriented lights.
-use Rattle.std.proofs.Common.{◌+◌, ◌*◌, ◌^◌, ◌≤◌, ◌⊎◌, inl, inr, arith, refl}
+use Rattle.std.proofs.Common.{◌+◌, ◌*◌, ◌^◌, ◌≤◌, ◌⊎◌, inl, inr, arith, le_refl, refl}
 use Rattle.lc_num.specs.Channels.{IsRgbWithin}
 use Rattle.lc_num.specs.Cosines.{cos16}
 use Rattle.lc_num.specs.Vectors.{Within, difference, square}
-use Rattle.lc_num.specs.Boxes.{emit_top, near2}
+use Rattle.lc_num.specs.Boxes.{near2}
+use Rattle.lc_num.specs.declared.rules.Rule.{Rule}
+use Rattle.lc_num.specs.declared.rules.Rule.TheVariants as rule
 use Rattle.lc_num.specs.declared.vectors.Vec3.{Vec3}
 use Rattle.lc_num.proofs.BoxLemmas.{near2-least}
-use Rattle.lc_num.proofs.CosineLaw.{cos16-small, cos16_below_emit_top, emit_top-small}
+use Rattle.lc_num.proofs.CosineLaw.{cos16-small}
 use Rattle.lc_num.proofs.SquareLemmas.{square_bound, square-turned}
 use Rattle.lc_light.specs.Lights.{IsOriented}
 use Rattle.lc_light.specs.declared.lights.Oriented.{Oriented}
@@ -17,10 +19,10 @@ use Rattle.lc_terms.specs.SeenLaws.{factor-below}
 use Rattle.lc_terms.specs.Spot.{IsSpot}
 use Rattle.lc_terms.specs.declared.spot.Spot.{Spot}
 use Rattle.lc_bound.specs.Hull.{box_from, box_to}
-use Rattle.lc_bound.specs.Reach.{falloff, material_top}
+use Rattle.lc_bound.specs.Reach.{emission_top, falloff, material_top}
 use Rattle.lc_bound.specs.Oriented.{Clump, IsClump, Covers, toward, geometry, geometry_top, one, join, reach, oriented_meaning}
 use Rattle.lc_bound.specs.HullLaws.{point_box-inside, point_box-within, hull-within, hull-inside, within_more, difference-within, box_from-inside, box_to-inside}
-use Rattle.lc_bound.specs.ReachLaws.{emitted-rises, emitted-small, falloff-falls, falloff-small, material-below, material_top-small, times-rises, times-small}
+use Rattle.lc_bound.specs.ReachLaws.{emission-below, emission_top-sharper, emission_top-small, emitted-rises, emitted-small, falloff-falls, falloff-small, material-below, material_top-sharper, material_top-small, times-rises, times-small}
 
 toward_within : (x : Vec3) (light : Oriented) → Within 50_100_000 x → IsOriented light → Within 100_100_000 (toward x light)
 toward_within x light hx h = difference-within 50_000_000 50_100_000 light.place x h.place hx
@@ -70,28 +72,44 @@ join_covers a b light (inr h) = record {
   least = omega (arith, h.least);
 }
 
-reach_within : (spot : Spot) (c : Clump) → IsSpot spot → IsRgbWithin (20_000 * 65_536 * 10 ^ 13) (reach spot c)
-reach_within spot c hs =
-    times-small (geometry_top spot.x c) (material_top spot (box_from spot.x c.box) (near2 spot.x c.box))
-    (emitted-small (emit_top c.normals c.least (box_to spot.x c.box) (near2 spot.x c.box)) (falloff (near2 spot.x c.box))
-    (emit_top-small c.normals c.least (box_to spot.x c.box) (near2 spot.x c.box))
+reach_within : (spot : Spot) (c : Clump) (r : Rule) → IsSpot spot → IsRgbWithin (20_000 * 65_536 * 10 ^ 13) (reach spot c r)
+reach_within spot c r hs =
+    times-small (geometry_top spot.x c r) (material_top spot (box_from spot.x c.box) (near2 spot.x c.box) r)
+    (emitted-small (emission_top r c.normals c.least (box_to spot.x c.box) (near2 spot.x c.box)) (falloff (near2 spot.x c.box))
+    (emission_top-small r c.normals c.least (box_to spot.x c.box) (near2 spot.x c.box))
     (falloff-small (near2 spot.x c.box)))
-    (material_top-small spot (box_from spot.x c.box) (near2 spot.x c.box) hs)
+    (material_top-small spot (box_from spot.x c.box) (near2 spot.x c.box) r hs)
 
 -- no light that a clump covers has a greater geometric term than the clump's bound
-geometry_below : (x : Vec3) (c : Clump) (light : Oriented) → Covers c light → near2 x c.box ≤ square (difference light.place x) → geometry x light ≤ geometry_top x c
-geometry_below x c light h near =
-    emitted-rises (cos16 light.normal (difference x light.place)) (emit_top c.normals c.least (box_to x c.box) (near2 x c.box)) (falloff (square (difference light.place x))) (falloff (near2 x c.box))
-    (cos16_below_emit_top light.normal (difference x light.place) c.normals c.least (box_to x c.box) (near2 x c.box) h.normal (box_to-inside x c.box light.place h.place) h.least (rw (square-turned x light.place) near))
+geometry_below : (x : Vec3) (c : Clump) (r : Rule) (light : Oriented) → Covers c light → near2 x c.box ≤ square (difference light.place x) → geometry x light ≤ geometry_top x c r
+geometry_below x c r light h near =
+    emitted-rises (cos16 light.normal (difference x light.place)) (emission_top r c.normals c.least (box_to x c.box) (near2 x c.box)) (falloff (square (difference light.place x))) (falloff (near2 x c.box))
+    (emission-below r light.normal (difference x light.place) c.normals c.least (box_to x c.box) (near2 x c.box) h.normal (box_to-inside x c.box light.place h.place) h.least (rw (square-turned x light.place) near))
     (falloff-falls (near2 x c.box) (square (difference light.place x)) near)
 
 -- no light that a clump covers and that is seen has a greater factor than the clump's bound
-seen_dominates : (spot : Spot) (c : Clump) (light : Oriented) → Covers c light → IsAtMost (reach spot c) (factor spot (toward spot.x light) (geometry spot.x light))
-seen_dominates spot c light h =
+seen_dominates : (spot : Spot) (c : Clump) (r : Rule) (light : Oriented) → Covers c light → IsAtMost (reach spot c r) (factor spot (toward spot.x light) (geometry spot.x light))
+seen_dominates spot c r light h =
     let near = near2-least spot.x c.box light.place h.place in
-    times-rises (geometry spot.x light) (geometry_top spot.x c) (material spot (toward spot.x light)) (material_top spot (box_from spot.x c.box) (near2 spot.x c.box))
-    (geometry_below spot.x c light h near)
-    (material-below spot (box_from spot.x c.box) (near2 spot.x c.box) (difference light.place spot.x) (box_from-inside spot.x c.box light.place h.place) near)
+    times-rises (geometry spot.x light) (geometry_top spot.x c r) (material spot (toward spot.x light)) (material_top spot (box_from spot.x c.box) (near2 spot.x c.box) r)
+    (geometry_below spot.x c r light h near)
+    (material-below spot (box_from spot.x c.box) (near2 spot.x c.box) r (difference light.place spot.x) (box_from-inside spot.x c.box light.place h.place) near)
+
+geometry_sharper : (x : Vec3) (c : Clump) → geometry_top x c rule.Two ≤ geometry_top x c rule.One
+geometry_sharper x c =
+    let offsets = box_to x c.box in
+    let near = near2 x c.box in
+    emitted-rises (emission_top rule.Two c.normals c.least offsets near) (emission_top rule.One c.normals c.least offsets near) (falloff near) (falloff near)
+    (emission_top-sharper c.normals c.least offsets near)
+    (le_refl (falloff near))
+
+sharper : (spot : Spot) (c : Clump) → IsAtMost (reach spot c rule.One) (reach spot c rule.Two)
+sharper spot c =
+    let box = box_from spot.x c.box in
+    let near = near2 spot.x c.box in
+    times-rises (geometry_top spot.x c rule.Two) (geometry_top spot.x c rule.One) (material_top spot box near rule.Two) (material_top spot box near rule.One)
+    (geometry_sharper spot.x c)
+    (material_top-sharper spot box near)
 
 pub oriented_laws : Laws oriented_meaning
 oriented_laws = record {
@@ -110,7 +128,8 @@ oriented_laws = record {
   join_covers = λ a b light ha hb hl h. join_covers a b light h;
   count_within = λ c h. h.few;
   total_within = λ c h. h.total;
-  reach_within = λ spot c hs hc. reach_within spot c hs;
-  top_is = λ spot c hs hc. refl;
-  dominates = λ ts spot c light hs hc hl h. factor-below oriented_meaning ts spot light (reach spot c) (seen_dominates spot c light h);
+  reach_within = λ spot c r hs hc. reach_within spot c r hs;
+  top_is = λ spot c r hs hc. refl;
+  dominates = λ ts spot c r light hs hc hl h. factor-below oriented_meaning ts spot light (reach spot c r) (seen_dominates spot c r light h);
+  sharper = λ spot c hs hc. sharper spot c;
 }

@@ -7,10 +7,13 @@ use Rattle.lc_num.specs.Channels.{IsRgbWithin}
 use Rattle.lc_num.specs.Cosines.{cos16}
 use Rattle.lc_num.specs.Powers.{pow16}
 use Rattle.lc_num.specs.Vectors.{square}
-use Rattle.lc_num.specs.Boxes.{Ends, IsInside, cos_top}
+use Rattle.lc_num.specs.Boxes.{Ends, IsInside}
 use Rattle.lc_num.specs.declared.vectors.Vec3.{Vec3}
 use Rattle.lc_num.specs.declared.channels.Rgb.{Rgb}
-use Rattle.lc_num.proofs.CosineLaw.{cos16_below_cos_top, cos_top-small}
+use Rattle.lc_num.specs.declared.rules.Rule.{Rule}
+use Rattle.lc_num.specs.declared.rules.Rule.TheVariants as rule
+use Rattle.lc_num.proofs.CosineLaw.{cos16_below_cos_top, cos16_below_emit_top, cos_top-small, emit_top-small}
+use Rattle.lc_num.proofs.CrossLaw.{cos16_below_cos_top2, cos16_below_emit_top2, cos_top2-below, cos_top2-small, emit_top2-below, emit_top2-small}
 use Rattle.lc_num.proofs.PowerLemmas.{pow16-rises, pow16-most}
 use Rattle.lc_terms.specs.Channels.{times, IsAtMost}
 use Rattle.lc_terms.specs.Factor.{material, material_by, reflected}
@@ -18,7 +21,7 @@ use Rattle.lc_terms.specs.SeenLaws.{black-below}
 use Rattle.lc_terms.proofs.Reflecting.{material-dark, material-of_lit}
 use Rattle.lc_terms.specs.Spot.{IsSpot}
 use Rattle.lc_terms.specs.declared.spot.Spot.{Spot}
-use Rattle.lc_bound.specs.Reach.{emitted, falloff, material_top}
+use Rattle.lc_bound.specs.Reach.{cosine_top, emission_top, emitted, falloff, material_top}
 
 -- a quotient by a greater number is no greater
 quotient_falls : (n c d : ℕ) → 0 < c → c ≤ d → n / d ≤ n / c
@@ -77,16 +80,46 @@ material-small spot c m valid hc hm =
     rw (← material-dark spot c m none) (record { r = omega arith; g = omega arith; b = omega arith }))
     (cases_lt 0 c)
 
--- the light from a vector of the box that is not shorter than `least`
-pub material-below : (spot : Spot) (box : Ends) (least : ℕ) (b : Vec3) → IsInside box b → least ≤ square b → IsAtMost (material_top spot box least) (material spot b)
-material-below spot box least b inside long =
-    material-rises spot (cos16 spot.n b) (cos_top spot.n box least) (cos16 spot.r b) (cos_top spot.r box least)
-    (cos16_below_cos_top spot.n b box least inside long)
-    (cos16_below_cos_top spot.r b box least inside long)
+-- ---- bounds of cosines under both rules
 
-pub material_top-small : (spot : Spot) (box : Ends) (least : ℕ) → IsSpot spot → IsRgbWithin (20_000 * 65_536) (material_top spot box least)
-material_top-small spot box least h =
-    material-small spot (cos_top spot.n box least) (cos_top spot.r box least) h (cos_top-small spot.n box least) (cos_top-small spot.r box least)
+cosine-below : (r : Rule) (n b : Vec3) (box : Ends) (least : ℕ) → IsInside box b → least ≤ square b → cos16 n b ≤ cosine_top r n box least
+cosine-below rule.One n b box least inside long = cos16_below_cos_top n b box least inside long
+cosine-below rule.Two n b box least inside long = cos16_below_cos_top2 n b box least inside long
+
+cosine_top-small : (r : Rule) (n : Vec3) (box : Ends) (least : ℕ) → cosine_top r n box least ≤ 65536
+cosine_top-small rule.One n box least = cos_top-small n box least
+cosine_top-small rule.Two n box least = cos_top2-small n box least
+
+pub emission-below : (r : Rule) (m d : Vec3) (normals : Ends) (least_n : ℕ) (offsets : Ends) (least_d : ℕ) → IsInside normals m → IsInside offsets d → least_n ≤ square m → least_d ≤ square d → cos16 m d ≤ emission_top r normals least_n offsets least_d
+emission-below rule.One m d normals least_n offsets least_d hm hd long_n long_d = cos16_below_emit_top m d normals least_n offsets least_d hm hd long_n long_d
+emission-below rule.Two m d normals least_n offsets least_d hm hd long_n long_d = cos16_below_emit_top2 m d normals least_n offsets least_d hm hd long_n long_d
+
+pub emission_top-small : (r : Rule) (normals : Ends) (least_n : ℕ) (offsets : Ends) (least_d : ℕ) → emission_top r normals least_n offsets least_d ≤ 65536
+emission_top-small rule.One normals least_n offsets least_d = emit_top-small normals least_n offsets least_d
+emission_top-small rule.Two normals least_n offsets least_d = emit_top2-small normals least_n offsets least_d
+
+-- ---- the material bound
+
+-- the light from a vector of the box that is not shorter than `least`
+pub material-below : (spot : Spot) (box : Ends) (least : ℕ) (r : Rule) (b : Vec3) → IsInside box b → least ≤ square b → IsAtMost (material_top spot box least r) (material spot b)
+material-below spot box least r b inside long =
+    material-rises spot (cos16 spot.n b) (cosine_top r spot.n box least) (cos16 spot.r b) (cosine_top r spot.r box least)
+    (cosine-below r spot.n b box least inside long)
+    (cosine-below r spot.r b box least inside long)
+
+pub material_top-small : (spot : Spot) (box : Ends) (least : ℕ) (r : Rule) → IsSpot spot → IsRgbWithin (20_000 * 65_536) (material_top spot box least r)
+material_top-small spot box least r h =
+    material-small spot (cosine_top r spot.n box least) (cosine_top r spot.r box least) h (cosine_top-small r spot.n box least) (cosine_top-small r spot.r box least)
+
+-- the second rule's is nowhere above the first one's
+pub material_top-sharper : (spot : Spot) (box : Ends) (least : ℕ) → IsAtMost (material_top spot box least rule.One) (material_top spot box least rule.Two)
+material_top-sharper spot box least =
+    material-rises spot (cosine_top rule.Two spot.n box least) (cosine_top rule.One spot.n box least) (cosine_top rule.Two spot.r box least) (cosine_top rule.One spot.r box least)
+    (cos_top2-below spot.n box least)
+    (cos_top2-below spot.r box least)
+
+pub emission_top-sharper : (normals : Ends) (least_n : ℕ) (offsets : Ends) (least_d : ℕ) → emission_top rule.Two normals least_n offsets least_d ≤ emission_top rule.One normals least_n offsets least_d
+emission_top-sharper normals least_n offsets least_d = emit_top2-below normals least_n offsets least_d
 
 -- a product of greater terms is no smaller
 pub times-rises : (g h : ℕ) (c d : Rgb) → g ≤ h → IsAtMost d c → IsAtMost (times h d) (times g c)

@@ -6,6 +6,7 @@ use Rattle.lc_num.specs.Boxes.{Ends, IsBoxWithin, IsInside}
 use Rattle.lc_num.specs.declared.vectors.Vec3.{Vec3}
 use Rattle.lc_num.specs.declared.channels.Rgb.{Rgb}
 use Rattle.lc_num.specs.declared.channels.Power.{Power}
+use Rattle.lc_num.specs.declared.rules.Rule.{Rule}
 use Rattle.lc_light.specs.Lights.{IsSun}
 use Rattle.lc_light.specs.declared.lights.Sun.{Sun}
 use Rattle.lc_terms.specs.Channels.{times, by_power, power_plus}
@@ -67,11 +68,11 @@ abbrev pub total_of : Clump → Power
 total_of c = c.total
 
 -- the geometric term that all suns have, and the material bound over the box
-abbrev pub reach : Spot → Clump → Rgb
-reach spot c = times (10 ^ 9) (material_top spot c.box c.least)
+abbrev pub reach : Spot → Clump → Rule → Rgb
+reach spot c r = times (10 ^ 9) (material_top spot c.box c.least r)
 
-abbrev pub top : Spot → Clump → Rgb
-top spot c = by_power (reach spot c) c.total
+abbrev pub top : Spot → Clump → Rule → Rgb
+top spot c r = by_power (reach spot c r) c.total
 
 abbrev pub sun_meaning : Meaning Sun Clump
 sun_meaning = record {

@@ -1,6 +1,7 @@
 //! The kinds of light, the clumps that stand for many lights of a kind, and bounds of what a clump gives to a spot.
 #![tactic(auto)]
 
+mod cosines;
 mod hull;
 mod omni;
 mod oriented;

@@ -6,7 +6,7 @@ use crate::hull::{box_from, hull, point_box};
 use crate::reach::{falloff, scaled_total};
 use crate::reflection::reflection_top;
 use lc_light::Omni;
-use lc_num::{Power, Rgb, Span3, Vec3, difference, near2, short_square};
+use lc_num::{Power, Rgb, Rule, Span3, Vec3, difference, near2, short_square};
 use lc_terms::{Kind, Spot};
 use std::marker::Model;
 
@@ -85,9 +85,9 @@ impl Kind for OmniKind {
         clump.total
     }
 
-    fn top(spot: &Spot, clump: &OmniClump) -> Rgb {
+    fn top(spot: &Spot, clump: &OmniClump, rule: Rule) -> Rgb {
         let near = near2(spot.x, clump.span);
-        let Some(reflection) = reflection_top(spot, box_from(spot.x, clump.span), near) else {
+        let Some(reflection) = reflection_top(spot, box_from(spot.x, clump.span), near, rule) else {
             return Rgb { r: 0, g: 0, b: 0 };
         };
         scaled_total(falloff(near as u64), spot, reflection, clump.total)

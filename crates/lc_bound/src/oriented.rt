@@ -2,11 +2,12 @@
 ghost use Rattle.lc_bound.specs.Oriented.{oriented_meaning};
 ghost use Rattle.lc_bound.specs.OrientedLaws.{oriented_laws};
 
+use crate::cosines::emission_top;
 use crate::hull::{box_from, box_to, hull, point_box};
 use crate::reach::{emitted, falloff, scaled_total};
 use crate::reflection::reflection_top;
 use lc_light::Oriented;
-use lc_num::{Power, Rgb, Span3, Vec3, cos16, difference, emit_top, near2, short_square};
+use lc_num::{Power, Rgb, Rule, Span3, Vec3, cos16, difference, near2, short_square};
 use lc_terms::{Kind, Spot};
 use std::marker::Model;
 
@@ -96,13 +97,13 @@ impl Kind for OrientedKind {
         clump.total
     }
 
-    fn top(spot: &Spot, clump: &OrientedClump) -> Rgb {
+    fn top(spot: &Spot, clump: &OrientedClump, rule: Rule) -> Rgb {
         let near = near2(spot.x, clump.span);
-        let Some(reflection) = reflection_top(spot, box_from(spot.x, clump.span), near) else {
+        let Some(reflection) = reflection_top(spot, box_from(spot.x, clump.span), near, rule) else {
             return Rgb { r: 0, g: 0, b: 0 };
         };
         let offsets = box_to(spot.x, clump.span);
-        let emission = emit_top(clump.normals, clump.least as u128, offsets, near);
+        let emission = emission_top(clump.normals, clump.least as u128, offsets, near, rule);
         if emission == 0 {
             return Rgb { r: 0, g: 0, b: 0 };
         }

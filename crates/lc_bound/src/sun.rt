@@ -7,7 +7,7 @@ use crate::hull::{hull, point_box};
 use crate::reach::scaled_total;
 use crate::reflection::reflection_top;
 use lc_light::Sun;
-use lc_num::{Power, Rgb, Span3, Vec3, short_square};
+use lc_num::{Power, Rgb, Rule, Span3, Vec3, short_square};
 use lc_terms::{Kind, Spot};
 use std::marker::Model;
 
@@ -106,8 +106,8 @@ impl Kind for SunKind {
         clump.total
     }
 
-    fn top(spot: &Spot, clump: &SunClump) -> Rgb {
-        let Some(reflection) = reflection_top(spot, clump.span, clump.least as u128) else {
+    fn top(spot: &Spot, clump: &SunClump, rule: Rule) -> Rgb {
+        let Some(reflection) = reflection_top(spot, clump.span, clump.least as u128, rule) else {
             return Rgb { r: 0, g: 0, b: 0 };
         };
         scaled_total(GEOMETRY, spot, reflection, clump.total)

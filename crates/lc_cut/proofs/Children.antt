@@ -1,6 +1,7 @@
 -- What is found of the nodes of a tree, and which child takes over a factor.
 use Rattle.std.proofs.Common.{◌≡◌, ℕ, suc, ◌+◌, ◌*◌, ◌<◌, inl, inr, List, [], Option, None, Some, slice_get, refl, ap, sym, subst, ◌∙◌, arith, add-one, IsSomeAnd, MatchOption}
 use Rattle.lc_num.specs.declared.channels.Rgb.{Rgb}
+use Rattle.lc_num.specs.declared.rules.Rule.{Rule}
 use Rattle.lc_geom.specs.declared.triangle.Tri.{Tri}
 use Rattle.lc_terms.specs.Channels.{by_power}
 use Rattle.lc_terms.specs.Kind.{Meaning, factor_of}
@@ -86,51 +87,53 @@ module _ {L : Type 0} where
   led_at valid v p t h e = led_in valid v.lights v.root p t h e
 
 module _ {L C : Type 0} (m : Meaning L C) (ts : List Tri) (spot : Spot) where
-  light_lit : (t : Node L) → light_of (lit m ts spot t) ≡ light_at m ts spot t
-  light_lit (leaf n l) = refl
-  light_lit (fork n l a b) = refl
-
   factor_is : (root : Option (Node L)) (p : ℕ) (t : Node L) (f : Rgb) → node_of root p ≡ Some t → IsFactor m ts spot root p f → f ≡ factor_of m ts spot (leader t)
   factor_is root p t f e h = rw e at h.is
 
+module _ {L C : Type 0} (m : Meaning L C) (ts : List Tri) (spot : Spot) (r : Rule) where
+  light_lit : (t : Node L) → light_of (lit m ts spot r t) ≡ light_at m ts spot r t
+  light_lit (leaf n l) = refl
+  light_lit (fork n l a b) = refl
+
   -- what is found of a node
-  found_is : (root : Option (Node L)) (p : ℕ) (t : Node L) (f : Rgb) (x : Found Rgb) → node_of root p ≡ Some t → IsFactor m ts spot root p f → x.node ≡ p → IsSomeAnd (node_of root p) (λ s. x.light ≡ light_by m spot f s) → x.kept ≡ f → IsFound (IsFactor m ts spot root) p (lit m ts spot t) x
+  found_is : (root : Option (Node L)) (p : ℕ) (t : Node L) (f : Rgb) (x : Found Rgb) → node_of root p ≡ Some t → IsFactor m ts spot root p f → x.node ≡ p → IsSomeAnd (node_of root p) (λ s. x.light ≡ light_by m spot r f s) → x.kept ≡ f → IsFound (IsFactor m ts spot root) p (lit m ts spot r t) x
   found_is root p t f x e h node light kept =
-      let given : x.light ≡ light_by m spot f t = rw e at light in
+      let given : x.light ≡ light_by m spot r f t = rw e at light in
       record {
         node = node;
-        light = given ∙ ap (λ g. light_by m spot g t) (factor_is root p t f e h) ∙ sym (light_lit t);
+        light = given ∙ ap (λ g. light_by m spot r g t) (factor_is m ts spot root p t f e h) ∙ sym (light_lit t);
         kept = rw kept h;
       }
 
-  pub root_none : (root : Option (Node L)) → 0 ≡ count_of root → IsRoot (IsFactor m ts spot root) (lit_root m ts spot root) None
+  pub root_none : (root : Option (Node L)) → 0 ≡ count_of root → IsRoot (IsFactor m ts spot root) (lit_root m ts spot r root) None
   root_none None h = refl
   root_none (Some t) h = absurd (omega (arith, h, node_some t))
 
   pub root_within : (root : Option (Node L)) (n : ℕ) → n ≡ count_of root → (n ≡ 0 → ⊥) → 0 < count_of root
   root_within root n h some = omega arith
 
-  root_at_some : (root whole : Option (Node L)) (f : Rgb) (x : Found Rgb) → whole ≡ root → 0 < count_of root → IsFactor m ts spot whole 0 f → x.node ≡ 0 → IsSomeAnd (node_of whole 0) (λ t. x.light ≡ light_by m spot f t) → x.kept ≡ f → IsRoot (IsFactor m ts spot whole) (lit_root m ts spot root) (Some x)
+  root_at_some : (root whole : Option (Node L)) (f : Rgb) (x : Found Rgb) → whole ≡ root → 0 < count_of root → IsFactor m ts spot whole 0 f → x.node ≡ 0 → IsSomeAnd (node_of whole 0) (λ t. x.light ≡ light_by m spot r f t) → x.kept ≡ f → IsRoot (IsFactor m ts spot whole) (lit_root m ts spot r root) (Some x)
   root_at_some None whole f x e some h node light kept = absurd (omega arith)
   root_at_some (Some t) whole f x e some h node light kept = found_is whole 0 t f x (ap (λ o. node_of o 0) e ∙ root_at t) h node light kept
 
-  pub root_some : (root : Option (Node L)) (f : Rgb) (x : Found Rgb) → 0 < count_of root → IsFactor m ts spot root 0 f → x.node ≡ 0 → IsSomeAnd (node_of root 0) (λ t. x.light ≡ light_by m spot f t) → x.kept ≡ f → IsRoot (IsFactor m ts spot root) (lit_root m ts spot root) (Some x)
+  pub root_some : (root : Option (Node L)) (f : Rgb) (x : Found Rgb) → 0 < count_of root → IsFactor m ts spot root 0 f → x.node ≡ 0 → IsSomeAnd (node_of root 0) (λ t. x.light ≡ light_by m spot r f t) → x.kept ≡ f → IsRoot (IsFactor m ts spot root) (lit_root m ts spot r root) (Some x)
   root_some root f x some h node light kept = root_at_some root root f x refl some h node light kept
 
-  pub split_some : (root : Option (Node L)) (p left right : ℕ) → IsSomeAnd (node_of root p) (λ t. ◌≡◌ {A = Option (ℕ × ℕ)} (Some (left, right)) (kids_of p t)) → (f fl fr : Rgb) → IsFactor m ts spot root p f → IsFactor m ts spot root left fl → IsFactor m ts spot root right fr → (s : Split Rgb) → IsSomeAnd (node_of root p) (λ t. s.est ≡ by_power f (power_sum m (members t))) → s.left.node ≡ left → IsSomeAnd (node_of root left) (λ t. s.left.light ≡ light_by m spot fl t) → s.left.kept ≡ fl → s.right.node ≡ right → IsSomeAnd (node_of root right) (λ t. s.right.light ≡ light_by m spot fr t) → s.right.kept ≡ fr → IsSomeAnd (node_of root p) (λ t. IsSplit (IsFactor m ts spot root) p (lit m ts spot t) (Some s))
+  pub split_some : (root : Option (Node L)) (p left right : ℕ) → IsSomeAnd (node_of root p) (λ t. ◌≡◌ {A = Option (ℕ × ℕ)} (Some (left, right)) (kids_of p t)) → (f fl fr : Rgb) → IsFactor m ts spot root p f → IsFactor m ts spot root left fl → IsFactor m ts spot root right fr → (s : Split Rgb) → IsSomeAnd (node_of root p) (λ t. s.est ≡ by_power f (power_sum m (members t))) → s.left.node ≡ left → IsSomeAnd (node_of root left) (λ t. s.left.light ≡ light_by m spot r fl t) → s.left.kept ≡ fl → s.right.node ≡ right → IsSomeAnd (node_of root right) (λ t. s.right.light ≡ light_by m spot r fr t) → s.right.kept ≡ fr → IsSomeAnd (node_of root p) (λ t. IsSplit (IsFactor m ts spot root) p (lit m ts spot r t) (Some s))
   split_some root p left right h f fl fr hf hl hr s est ln ll lk rn rl rk =
       let i : IsParent root p left right = parent_of root p left right h in
       let t : Node L = fork i.number i.light i.a i.b in
       let given : s.est ≡ by_power f (power_sum m (members t)) = rw i.found at est in
-      let x : IsFound (IsFactor m ts spot root) left (lit m ts spot i.a) s.left = found_is root left i.a fl s.left i.left_found hl ln ll lk in
-      let y : IsFound (IsFactor m ts spot root) right (lit m ts spot i.b) s.right = found_is root right i.b fr s.right i.right_found hr rn rl rk in
-      let at : right ≡ p + 2 * lits.leaf_count (lit m ts spot i.a) = omega (arith, i.right_is, leaves_lit m ts spot i.a) in
+      let x : IsFound (IsFactor m ts spot root) left (lit m ts spot r i.a) s.left = found_is root left i.a fl s.left i.left_found hl ln ll lk in
+      let y : IsFound (IsFactor m ts spot root) right (lit m ts spot r i.b) s.right = found_is root right i.b fr s.right i.right_found hr rn rl rk in
+      let at : right ≡ p + 2 * lits.leaf_count (lit m ts spot r i.a) = omega (arith, i.right_is, leaves_lit m ts spot r i.a) in
       rw i.found (
-        given ∙ ap (λ g. by_power g (power_sum m (members t))) (factor_is root p t f i.found hf),
-        subst (λ n. IsFound (IsFactor m ts spot root) n (lit m ts spot i.a) s.left) i.left_is x,
-        subst (λ n. IsFound (IsFactor m ts spot root) n (lit m ts spot i.b) s.right) at y,
+        given ∙ ap (λ g. by_power g (power_sum m (members t))) (factor_is m ts spot root p t f i.found hf),
+        subst (λ n. IsFound (IsFactor m ts spot root) n (lit m ts spot r i.a) s.left) i.left_is x,
+        subst (λ n. IsFound (IsFactor m ts spot root) n (lit m ts spot r i.b) s.right) at y,
       )
 
+module _ {L C : Type 0} (m : Meaning L C) (ts : List Tri) (spot : Spot) where
   -- the child whose representative is that of the node
   pub left_keeps : (v : Kept L) (p left right : ℕ) → IsSomeAnd (node_of v.root p) (λ t. ◌≡◌ {A = Option (ℕ × ℕ)} (Some (left, right)) (kids_of p t)) → (f : Rgb) → IsFactor m ts spot v.root p f → (x y : ℕ) → IsSomeAnd (node_of v.root left) (λ t. IsLeaderOf v.lights t x) → IsSomeAnd (node_of v.root p) (λ t. IsLeaderOf v.lights t y) → x ≡ y → IsFactor m ts spot v.root left f
   left_keeps v p left right h f hf x y hx hy same =
@@ -139,7 +142,7 @@ module _ {L C : Type 0} (m : Meaning L C) (ts : List Tri) (spot : Spot) where
       let la : IsLeaderOf v.lights i.a x = rw i.left_found at hx in
       let lt : IsLeaderOf v.lights t y = rw i.found at hy in
       let e : leader t ≡ leader i.a = some_same (sym lt.light ∙ ap (slice_get v.lights) (sym same) ∙ la.light) in
-      let given : f ≡ factor_of m ts spot (leader i.a) = factor_is v.root p t f i.found hf ∙ ap (factor_of m ts spot) e in
+      let given : f ≡ factor_of m ts spot (leader i.a) = factor_is m ts spot v.root p t f i.found hf ∙ ap (factor_of m ts spot) e in
       record { is = rw i.left_found given; within = hf.within }
 
   pub right_keeps : (valid : L → Type 0) (v : Kept L) → IsTreeIf valid v → (p left right : ℕ) → IsSomeAnd (node_of v.root p) (λ t. ◌≡◌ {A = Option (ℕ × ℕ)} (Some (left, right)) (kids_of p t)) → (f : Rgb) → IsFactor m ts spot v.root p f → (x y : ℕ) → IsSomeAnd (node_of v.root left) (λ t. IsLeaderOf v.lights t x) → IsSomeAnd (node_of v.root p) (λ t. IsLeaderOf v.lights t y) → (x ≡ y → ⊥) → IsFactor m ts spot v.root right f
@@ -150,5 +153,5 @@ module _ {L C : Type 0} (m : Meaning L C) (ts : List Tri) (spot : Spot) where
       let lt : IsLeaderOf v.lights t y = rw i.found at hy in
       let led : IsLed t = led_at valid v p t tree i.found in
       let e : leader t ≡ leader i.b = elim led.0 [ inl l ↦ absurd (differ (la.is ∙ sym l.0 ∙ sym lt.is)) | inr r ↦ r.1 ] in
-      let given : f ≡ factor_of m ts spot (leader i.b) = factor_is v.root p t f i.found hf ∙ ap (factor_of m ts spot) e in
+      let given : f ≡ factor_of m ts spot (leader i.b) = factor_is m ts spot v.root p t f i.found hf ∙ ap (factor_of m ts spot) e in
       record { is = rw i.right_found given; within = hf.within }

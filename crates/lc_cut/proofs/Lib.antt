@@ -4,3 +4,4 @@ pub mod Children
 pub mod Rooted
 pub mod Whole
 pub mod SumLimits
+pub mod NodeBounds

@@ -3,6 +3,7 @@ use Rattle.std.proofs.Common.{◌≡◌, ℕ, ◌+◌, ◌-◌, ◌*◌, ◌^◌
 use Rattle.std.proofs.Math.Nat.{mul-le-mul_left}
 use Rattle.lc_num.specs.Channels.{IsRgbWithin}
 use Rattle.lc_num.specs.declared.channels.Rgb.{Rgb}
+use Rattle.lc_num.specs.declared.rules.Rule.TheVariants as rule
 use Rattle.lc_geom.specs.declared.triangle.Tri.{Tri}
 use Rattle.lc_terms.specs.Spot.{IsSpot}
 use Rattle.lc_terms.specs.declared.spot.Spot.{Spot}
@@ -67,4 +68,4 @@ full_within trees h = within _ _ _ (full_small red trees h.red h.few) (full_smal
 -- and so the sum over all lights
 pub plain_within : (ts : List Tri) (spot : Spot) (forest : Forest) → IsSpot spot → IsForest forest → IsRgbWithin (2 ^ 117 - 1) (plain ts spot (lights_of forest))
 plain_within ts spot forest hs h =
-    subst (IsRgbWithin (2 ^ 117 - 1)) (trees_full ts spot hs forest h) (full_within (trees_of ts spot forest) (trees_limited ts spot hs forest h))
+    subst (IsRgbWithin (2 ^ 117 - 1)) (trees_full ts spot hs rule.One forest h) (full_within (trees_of ts spot rule.One forest) (trees_limited ts spot hs rule.One forest h))

@@ -1,6 +1,7 @@
 -- The trees of a forest: their lights, what holds of them, and what they have at a spot.
 use Rattle.std.specs.Prelude.{ℕ, ◌+◌, ◌≤◌, List, length}
 use Rattle.lc_num.specs.declared.channels.Rgb.{Rgb}
+use Rattle.lc_num.specs.declared.rules.Rule.{Rule}
 use Rattle.lc_geom.specs.declared.triangle.Tri.{Tri}
 use Rattle.lc_light.specs.Lights.{IsOmni, IsOriented, IsSun}
 use Rattle.lc_light.specs.declared.lights.Lights.{Lights}
@@ -40,12 +41,12 @@ pub record IsForest (forest : Forest) : Type 0 where
   pub sun : IsTreeIf IsSun forest.sun
   pub few : light_count (lights_of forest) ≤ 65536
 
--- the lit trees of a forest at a spot among triangles
-abbrev pub trees_of : List Tri → Spot → Forest → Trees
-trees_of ts spot forest = record {
-  omni = lit_root omni_meaning ts spot forest.omni.root;
-  oriented = lit_root oriented_meaning ts spot forest.oriented.root;
-  sun = lit_root sun_meaning ts spot forest.sun.root;
+-- the lit trees of a forest at a spot among triangles, with the bounds of a rule
+abbrev pub trees_of : List Tri → Spot → Rule → Forest → Trees
+trees_of ts spot r forest = record {
+  omni = lit_root omni_meaning ts spot r forest.omni.root;
+  oriented = lit_root oriented_meaning ts spot r forest.oriented.root;
+  sun = lit_root sun_meaning ts spot r forest.sun.root;
 }
 
 -- what is kept of a node of a forest: its representative's factor

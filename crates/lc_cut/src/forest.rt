@@ -11,7 +11,7 @@ use crate::lit_forest::LitForest;
 use lc_bound::{OmniKind, OrientedKind, SunKind};
 use lc_geom::Triangles;
 use lc_light::Lights;
-use lc_num::{Memory, Rgb, Steps};
+use lc_num::{Memory, Rgb, Rule, Steps};
 use lc_rated::{Answer, best_cut};
 use lc_terms::Spot;
 use lc_tree::Tree;
@@ -51,6 +51,8 @@ pub struct Ask {
     pub permille: u32,
     /// The greatest size of a cut, at least 3.
     pub size: u32,
+    /// The rule by which clusters are bounded.
+    pub rule: Rule,
 }
 
 /// The working memory of cuts, seen by contracts as the greatest size that it is made for.
@@ -82,7 +84,7 @@ pub fn cut<T: Triangles, L: Ledger>(
     requires spot { IsSpot spot.now }
     requires least { 3 ≤ ask.size }
     requires permille { ask.permille ≤ 1000 }
-    ensures value { result ≡ answer ask.size ask.permille (trees_of (T.list scene.now) spot.now forest.now) }
+    ensures value { result ≡ answer ask.size ask.permille (trees_of (T.list scene.now) spot.now ask.rule forest.now) }
     ensures near { IsNear (plain (T.list scene.now) spot.now (lights_of forest.now)) result }
     ensures fraction { (result.size ≡ ask.size) ⊎ IsFraction ask.permille result }
     ensures size { result.size ≤ ask.size }
@@ -98,6 +100,7 @@ pub fn cut<T: Triangles, L: Ledger>(
         forest,
         spot,
         scene,
+        rule: ask.rule,
     };
     best_cut(bench, &lit, ask.size, ask.permille, steps)
 }

@@ -7,7 +7,7 @@ mod lit_forest;
 mod node;
 
 pub use forest::{Ask, Bench, Forest, cut};
-pub use laws::{distance_to_all_lights, forests_of_all_lights, sums_fit};
+pub use laws::{distance_to_all_lights, forests_of_all_lights, nodes_within_bounds, sums_fit};
 pub use lc_rated::Answer;
 
 #[cfg(test)]

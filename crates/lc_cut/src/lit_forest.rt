@@ -4,16 +4,17 @@ ghost use Rattle.lc_terms.specs.Spot.{IsSpot};
 use crate::forest::Forest;
 use crate::node::{root, split};
 use lc_geom::Triangles;
-use lc_num::{Rgb, Steps};
+use lc_num::{Rgb, Rule, Steps};
 use lc_rated::{Found, LightKind, Lighting, Split};
 use lc_terms::Spot;
 use std::sync::ledger::Ledger;
 
-/// The trees of a forest at a spot among the triangles of a scene.
+/// The trees of a forest at a spot among the triangles of a scene, with the bounds of a rule.
 pub(crate) struct LitForest<'a, T: Triangles> {
     pub(crate) forest: &'a Forest,
     pub(crate) spot: &'a Spot,
     pub(crate) scene: &'a T,
+    pub(crate) rule: Rule,
     ghost valid: { IsSpot spot.now },
 }
 
@@ -23,6 +24,7 @@ impl<T: Triangles> Drop for LitForest<'_, T> {
             forest: _,
             spot: _,
             scene: _,
+            rule: _,
         } = self;
     }
 }
@@ -32,15 +34,21 @@ impl<T: Triangles> Lighting for LitForest<'_, T> {
 
     type Kept = Rgb;
 
-    ghost trees = { λ f. trees_of (T.list f.scene.now) f.spot.now f.forest.now };
+    ghost trees = { λ f. trees_of (T.list f.scene.now) f.spot.now f.rule f.forest.now };
 
     ghost keeps = { λ f. keeps_of (T.list f.scene.now) f.spot.now f.forest.now };
 
     fn root<L: Ledger>(&self, kind: LightKind, steps: &mut Steps<L>) -> Option<Found<Rgb>> {
         match kind {
-            LightKind::Omni => root(&self.forest.omni, self.spot, self.scene, steps),
-            LightKind::Oriented => root(&self.forest.oriented, self.spot, self.scene, steps),
-            LightKind::Sun => root(&self.forest.sun, self.spot, self.scene, steps),
+            LightKind::Omni => root(&self.forest.omni, self.spot, self.rule, self.scene, steps),
+            LightKind::Oriented => root(
+                &self.forest.oriented,
+                self.spot,
+                self.rule,
+                self.scene,
+                steps,
+            ),
+            LightKind::Sun => root(&self.forest.sun, self.spot, self.rule, self.scene, steps),
         }
     }
 
@@ -55,11 +63,12 @@ impl<T: Triangles> Lighting for LitForest<'_, T> {
             forest,
             spot,
             scene,
+            rule,
         } = self;
         match kind {
-            LightKind::Omni => split(&forest.omni, node, kept, spot, *scene, steps),
-            LightKind::Oriented => split(&forest.oriented, node, kept, spot, *scene, steps),
-            LightKind::Sun => split(&forest.sun, node, kept, spot, *scene, steps),
+            LightKind::Omni => split(&forest.omni, node, kept, spot, *rule, *scene, steps),
+            LightKind::Oriented => split(&forest.oriented, node, kept, spot, *rule, *scene, steps),
+            LightKind::Sun => split(&forest.sun, node, kept, spot, *rule, *scene, steps),
         }
     }
 }

@@ -1,5 +1,5 @@
 // What a node of a light tree gives at a spot.
-ghost use Rattle.std.specs.Prelude.{◌≡◌, ◌+◌, ◌*◌, ◌^◌, ◌<◌, ◌≤◌, Some, if◌then◌else◌, is_some, IsSomeAnd};
+ghost use Rattle.std.specs.Prelude.{◌≡◌, ◌+◌, ◌-◌, ◌*◌, ◌^◌, ◌<◌, ◌≤◌, max, Some, if◌then◌else◌, is_some, IsSomeAnd};
 ghost use Rattle.lc_num.specs.Channels.{IsPowerWithin, IsRgbWithin};
 ghost use Rattle.lc_terms.specs.Channels.{by_power};
 ghost use Rattle.lc_terms.specs.Spot.{IsSpot};
@@ -7,10 +7,10 @@ ghost use Rattle.lc_tree.specs.Node.{count_of, kids_of, leader, members, node_of
 ghost use Rattle.lc_tree.specs.Cover.{power_sum};
 ghost use Rattle.lc_tree.specs.Rows.{IsTreeIf};
 ghost use Rattle.lc_rated.specs.Finding.{IsRoot, IsSplit};
-ghost use Rattle.lc_cut.specs.Lit.{bound_of, light_by, lit, lit_root, IsFactor};
+ghost use Rattle.lc_cut.specs.Lit.{bound_of, light_by, lit, lit_root, node_bound, IsFactor};
 
 use lc_geom::Triangles;
-use lc_num::{Power, Rgb, Steps};
+use lc_num::{Power, Rgb, Rule, Steps};
 use lc_rated::{Found, NodeLight, Split};
 use lc_terms::{Kind, Spot, eval};
 use lc_tree::Tree;
@@ -66,33 +66,55 @@ fn estimate<K: Kind>(tree: &Tree<K>, node: u32, factor: Rgb) -> Rgb
     by_power(factor, total::<K>(&tree.clump(node)))
 }
 
-/// The bound of a node.
-fn bound<K: Kind>(tree: &Tree<K>, node: u32, spot: &Spot) -> Rgb
+/// The greater of an estimate and of what it leaves of the most that there can be.
+fn beside(est: u128, top: u128) -> u128
+    ensures { result ≡ max est (top - est) }
+{
+    est.max(top.saturating_sub(est))
+}
+
+/// The bound of an inner node by its estimate and by the most that it can give.
+fn node_bound(rule: Rule, est: Rgb, top: Rgb) -> Rgb
+    ensures { result ≡ node_bound rule est top }
+{
+    match rule {
+        Rule::One => top,
+        Rule::Two => Rgb {
+            r: beside(est.r, top.r),
+            g: beside(est.g, top.g),
+            b: beside(est.b, top.b),
+        },
+    }
+}
+
+/// The bound of a node with this estimate.
+fn bound<K: Kind>(tree: &Tree<K>, node: u32, spot: &Spot, rule: Rule, est: Rgb) -> Rgb
     requires spot { IsSpot spot.now }
     requires node { node < count_of tree.now.root }
-    ensures { IsSomeAnd (node_of tree.now.root node) (λ t. result ≡ bound_of K.meaning spot.now t) }
+    ensures { IsSomeAnd (node_of tree.now.root node) (λ t. result ≡ bound_of K.meaning spot.now rule est t) }
 {
     if tree.kids(node).is_some() {
-        K::top(spot, &tree.clump(node))
+        node_bound(rule, est, K::top(spot, &tree.clump(node), rule))
     } else {
         BLACK
     }
 }
 
 /// What is found of a node whose representative has this factor.
-fn found<K: Kind>(tree: &Tree<K>, node: u32, spot: &Spot, factor: Rgb) -> Found<Rgb>
+fn found<K: Kind>(tree: &Tree<K>, node: u32, spot: &Spot, rule: Rule, factor: Rgb) -> Found<Rgb>
     requires spot { IsSpot spot.now }
     requires node { node < count_of tree.now.root }
     requires factor { IsRgbWithin (20_000 * 65_536 * 10 ^ 13) factor }
     ensures node { result.node ≡ node }
-    ensures light { IsSomeAnd (node_of tree.now.root node) (λ t. result.light ≡ light_by K.meaning spot.now factor t) }
+    ensures light { IsSomeAnd (node_of tree.now.root node) (λ t. result.light ≡ light_by K.meaning spot.now rule factor t) }
     ensures kept { result.kept ≡ factor }
 {
+    let est = estimate(tree, node, factor);
     Found {
         node,
         light: NodeLight {
-            est: estimate(tree, node, factor),
-            bound: bound(tree, node, spot),
+            est,
+            bound: bound(tree, node, spot, rule, est),
         },
         kept: factor,
     }
@@ -153,18 +175,19 @@ fn factors<K: Kind, T: Triangles, L: Ledger>(
 pub(crate) fn root<K: Kind, T: Triangles, L: Ledger>(
     tree: &Tree<K>,
     spot: &Spot,
+    rule: Rule,
     scene: &T,
     steps: &mut Steps<L>,
 ) -> Option<Found<Rgb>>
     requires spot { IsSpot spot.now }
-    ensures root { IsRoot (IsFactor K.meaning (T.list scene.now) spot.now tree.now.root) (lit_root K.meaning (T.list scene.now) spot.now tree.now.root) result }
+    ensures root { IsRoot (IsFactor K.meaning (T.list scene.now) spot.now tree.now.root) (lit_root K.meaning (T.list scene.now) spot.now rule tree.now.root) result }
     ensures steps { steps.new ≡ steps.old + (if is_some result then 1 else 0) }
 {
     if tree.count() == 0 {
         return None;
     }
     let factor = factor(tree, 0, spot, scene, steps);
-    Some(found(tree, 0, spot, factor))
+    Some(found(tree, 0, spot, rule, factor))
 }
 
 /// The children of a node whose representative has this factor.
@@ -173,20 +196,21 @@ pub(crate) fn split<K: Kind, T: Triangles, L: Ledger>(
     node: u32,
     kept: Rgb,
     spot: &Spot,
+    rule: Rule,
     scene: &T,
     steps: &mut Steps<L>,
 ) -> Option<Split<Rgb>>
     requires spot { IsSpot spot.now }
     requires node { node < count_of tree.now.root }
     requires kept { IsFactor K.meaning (T.list scene.now) spot.now tree.now.root node kept }
-    ensures split { IsSomeAnd (node_of tree.now.root node) (λ t. IsSplit (IsFactor K.meaning (T.list scene.now) spot.now tree.now.root) node (lit K.meaning (T.list scene.now) spot.now t) result) }
+    ensures split { IsSomeAnd (node_of tree.now.root node) (λ t. IsSplit (IsFactor K.meaning (T.list scene.now) spot.now tree.now.root) node (lit K.meaning (T.list scene.now) spot.now rule t) result) }
     ensures steps { steps.new ≡ steps.old + (if is_some result then 1 else 0) }
 {
     let (left, right) = tree.kids(node)?;
     let kept_by = factors(tree, node, left, right, kept, spot, scene, steps);
     Some(Split {
         est: estimate(tree, node, kept),
-        left: found(tree, left, spot, kept_by.0),
-        right: found(tree, right, spot, kept_by.1),
+        left: found(tree, left, spot, rule, kept_by.0),
+        right: found(tree, right, spot, rule, kept_by.1),
     })
 }

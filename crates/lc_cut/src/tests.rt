@@ -5,7 +5,7 @@ ghost use Rattle.lc_cut.specs.Forest.{light_count, lights_of};
 use crate::{Answer, Ask, Bench, Forest, cut};
 use lc_geom::{Hit, Triangles};
 use lc_light::read_lights;
-use lc_num::{Colour, Rgb, Steps, Vec3};
+use lc_num::{Colour, Rgb, Rule, Steps, Vec3};
 use lc_terms::Spot;
 use std::alloc::Global;
 use std::cell::Cell;
@@ -91,7 +91,7 @@ fn look(bench: &mut Bench, forest: &Forest, scene: &Counting, ask: Ask) -> Answe
 }
 
 /// The answer for a text of lights with no triangles, by cuts of at most five nodes.
-fn answer(alloc: Global, text: &[u8], permille: u32) -> Result<Answer, Fail>
+fn answer_by(alloc: Global, text: &[u8], permille: u32, rule: Rule) -> Result<Answer, Fail>
     requires permille { permille ≤ 1000 }
     requires size { length text.now ≤ 536_870_912 }
 {
@@ -101,7 +101,19 @@ fn answer(alloc: Global, text: &[u8], permille: u32) -> Result<Answer, Fail>
     let scene = Counting {
         asked: Cell::new(0),
     };
-    Ok(look(&mut bench, &forest, &scene, Ask { permille, size: 5 }))
+    let ask = Ask {
+        permille,
+        size: 5,
+        rule,
+    };
+    Ok(look(&mut bench, &forest, &scene, ask))
+}
+
+fn answer(alloc: Global, text: &[u8], permille: u32) -> Result<Answer, Fail>
+    requires permille { permille ≤ 1000 }
+    requires size { length text.now ≤ 536_870_912 }
+{
+    answer_by(alloc, text, permille, Rule::One)
 }
 
 #[test]
@@ -117,6 +129,7 @@ fn asks_once_where_the_root_is_enough(rt: HostRuntime) -> Result<(), Fail> {
     let ask = Ask {
         permille: 1000,
         size: 3,
+        rule: Rule::One,
     };
     let answer = look(&mut bench, &forest, &scene, ask);
     assert_eq!(rt; (answer.size, answer.evals), (1, 1));
@@ -139,6 +152,7 @@ fn asks_once_for_each_cluster(rt: HostRuntime) -> Result<(), Fail> {
     let ask = Ask {
         permille: 0,
         size: 100,
+        rule: Rule::One,
     };
     let answer = look(&mut bench, &forest, &scene, ask);
     assert_eq!(rt; (answer.size, answer.evals), (100, 100));
@@ -160,6 +174,7 @@ fn asks_nothing_of_lights_that_give_nothing(rt: HostRuntime) -> Result<(), Fail>
     let ask = Ask {
         permille: 0,
         size: 5,
+        rule: Rule::One,
     };
     let answer = look(&mut bench, &forest, &scene, ask);
     assert_eq!(rt; answer.est, gray(0));
@@ -183,6 +198,23 @@ fn takes_two_lights_alone_or_together(rt: HostRuntime) -> Result<(), Fail> {
     assert_eq!(rt; (coarse.size, coarse.evals), (1, 1));
     assert_eq!(rt; coarse.est, est);
     assert_eq!(rt; coarse.bound, est);
+    Ok(())
+}
+
+#[test]
+fn bounds_by_two_rules(rt: HostRuntime) -> Result<(), Fail> {
+    // The first light gives nothing, so the second stands for both. What both can give is more than it gives, but less than
+    // twice as much.
+    let text = b"point 0 0 1 0 0 0\npoint 0 0 1.25 1 1 1\n";
+    let est = gray(4_194_304_000_000_000_000_000);
+    let first = answer_by(rt.alloc(), text, 1000, Rule::One)?;
+    assert_eq!(rt; (first.size, first.est, first.bound), (2, est, gray(0)));
+    let second = answer_by(rt.alloc(), text, 1000, Rule::Two)?;
+    assert_eq!(rt; (second.size, second.est, second.bound), (1, est, est));
+    // Farther away it gives less than it leaves.
+    let text = b"point 0 0 1 0 0 0\npoint 0 0 2 1 1 1\n";
+    let rest = answer_by(rt.alloc(), text, 1000, Rule::Two)?;
+    assert_eq!(rt; (rest.size, rest.bound), (2, gray(0)));
     Ok(())
 }
 

@@ -9,7 +9,8 @@ use Rattle.lc_desk.proofs.CallLemmas.{appended-appended, appended-nil}
 use Rattle.lc_rated.specs.declared.answer.Answer.{Answer}
 use Rattle.lc_tone.specs.Picture.{pixel_bytes}
 use Rattle.lc_record.specs.Record.{line_bytes}
-use Rattle.lc_frame.specs.Frames.{estimates, flat, lines_of, pixels, row_bytes, row_calls, samples}
+use Rattle.lc_view.specs.Samples.{flat}
+use Rattle.lc_frame.specs.Frames.{estimates, lines_of, pixels, row_bytes, row_calls, samples}
 use Rattle.lc_frame.proofs.LoopLemmas.{flat_map-append}
 
 -- ---- first parts

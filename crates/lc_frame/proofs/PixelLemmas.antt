@@ -26,7 +26,7 @@ use Rattle.lc_frame.proofs.LoopLemmas.{items, items-all, items-length, items-map
 -- the answers of a pixel are those of its samples by their numbers
 pub pixel_answers-is : (job : Job) (scene : SceneParts) (row col : ℕ) → pixel_answers job scene row col ≡ items (sample_at job scene row col) (job.camera.grid * job.camera.grid)
 unfolding pixel_answers pixel_rays sample_at
-pixel_answers-is job scene row col = items-map (ray_at job.camera row col) (sample_of job.cut job.permille scene) (job.camera.grid * job.camera.grid)
+pixel_answers-is job scene row col = items-map (ray_at job.camera row col) (sample_of job.cut job.permille job.rule scene) (job.camera.grid * job.camera.grid)
 
 pub lines-append : (xs ys : List Answer) → lines_of (xs ++ ys) ≡ lines_of xs ++ lines_of ys
 lines-append xs ys = map-append (λ (a : Answer). put Bounds (line_bytes a)) xs ys

@@ -12,7 +12,7 @@ use Rattle.lc_job.specs.declared.job.Job.{Job}
 use Rattle.lc_tone.specs.Picture.{picture, pixel_bytes}
 use Rattle.lc_tone.specs.Tone as tone
 use Rattle.lc_frame.specs.Files.{LeftPart, picture_file}
-use Rattle.lc_frame.specs.Frames.{flat}
+use Rattle.lc_view.specs.Samples.{flat}
 use Rattle.lc_frame.specs.PlainFrames.{plain_bytes, plain_calls, plain_picture, plain_put}
 use Rattle.lc_frame.proofs.LoopLemmas.{flat_map-append}
 use Rattle.lc_frame.proofs.FileLemmas.{AllPuts, PartOf, part_of, picture_after, picture_in, picture_parts}

@@ -5,11 +5,11 @@ use Rattle.lc_desk.specs.declared.desk.Slot.TheVariants.{Picture}
 use Rattle.lc_desk.specs.Desk.{DeskState}
 use Rattle.lc_desk.proofs.CallLemmas.{made_then}
 use Rattle.lc_rated.specs.declared.answer.Answer.{Answer}
-use Rattle.lc_view.specs.Samples.{picture_rays, pixel_rays, row_rays}
+use Rattle.lc_view.specs.Samples.{flat, picture_rays, pixel_rays, row_rays}
 use Rattle.lc_job.specs.declared.job.Job.{Job}
 use Rattle.lc_sample.specs.Scenes.{SceneParts}
 use Rattle.lc_sample.specs.Sampled.{sample_of}
-use Rattle.lc_frame.specs.Frames.{answers_of, evals_of, flat, lines_of, pixels, row_bytes, row_calls, samples}
+use Rattle.lc_frame.specs.Frames.{answers_of, evals_of, lines_of, pixels, row_bytes, row_calls, samples}
 use Rattle.lc_frame.specs.Parts.{pixel_answers, row_answers, with_more}
 use Rattle.lc_frame.specs.Stops.{Broke}
 use Rattle.lc_frame.specs.declared.stop.FrameStop.{FrameStop}
@@ -20,12 +20,12 @@ use Rattle.lc_frame.proofs.PixelLemmas.{evals-append, more-append}
 -- the pixels of a row are those of its columns
 pub row_answers-is : (job : Job) (scene : SceneParts) (row : ℕ) → row_answers job scene row ≡ items (pixel_answers job scene row) job.camera.width
 unfolding row_answers row_rays pixel_answers
-row_answers-is job scene row = items-map (pixel_rays job.camera row) (map (sample_of job.cut job.permille scene)) job.camera.width
+row_answers-is job scene row = items-map (pixel_rays job.camera row) (map (sample_of job.cut job.permille job.rule scene)) job.camera.width
 
 -- the rows of a picture
 pub answers-is : (job : Job) (scene : SceneParts) → answers_of job scene ≡ items (row_answers job scene) job.camera.height
 unfolding answers_of picture_rays row_answers
-answers-is job scene = items-map (row_rays job.camera) (map (map (sample_of job.cut job.permille scene))) job.camera.height
+answers-is job scene = items-map (row_rays job.camera) (map (map (sample_of job.cut job.permille job.rule scene))) job.camera.height
 
 -- ---- what steps give, one after another
 

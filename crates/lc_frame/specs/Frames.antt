@@ -4,7 +4,7 @@ use Rattle.lc_num.specs.declared.channels.Rgb.{Rgb}
 use Rattle.lc_desk.specs.Calls.{Call, begin, put}
 use Rattle.lc_desk.specs.declared.desk.Slot.TheVariants.{Picture, Bounds}
 use Rattle.lc_rated.specs.declared.answer.Answer.{Answer}
-use Rattle.lc_view.specs.Samples.{picture_rays}
+use Rattle.lc_view.specs.Samples.{flat, picture_rays}
 use Rattle.lc_job.specs.declared.job.Job.{Job}
 use Rattle.lc_sample.specs.Sampled.{sample_of}
 use Rattle.lc_sample.specs.Scenes.{SceneParts}
@@ -18,11 +18,7 @@ use Rattle.lc_frame.specs.declared.summary.Summary.{Summary}
 
 -- the answers at the samples of a picture: its rows from the top, of each its pixels from the left, of each its samples
 unfoldable pub answers_of : Job → SceneParts → List (List (List Answer))
-answers_of job scene = map (map (map (sample_of job.cut job.permille scene))) (picture_rays job.camera)
-
--- lists, one after another
-abbrev pub flat : {A : Type 0} → List (List A) → List A
-flat lists = flat_map (λ list. list) lists
+answers_of job scene = map (map (map (sample_of job.cut job.permille job.rule scene))) (picture_rays job.camera)
 
 -- the pixels of all rows
 abbrev pub pixels : List (List (List Answer)) → List (List Answer)
@@ -48,6 +44,7 @@ header_of job = record {
   grid = job.camera.grid;
   cut = job.cut;
   permille = job.permille;
+  rule = job.rule;
 }
 
 -- the record of these answers

@@ -12,15 +12,15 @@ use Rattle.lc_frame.specs.Frames.{largest_of}
 
 -- the answer at sample k of a pixel
 unfoldable pub sample_at : Job → SceneParts → ℕ → ℕ → ℕ → Answer
-sample_at job scene row col k = sample_of job.cut job.permille scene (ray_at job.camera row col k)
+sample_at job scene row col k = sample_of job.cut job.permille job.rule scene (ray_at job.camera row col k)
 
 -- the answers at the samples of a pixel
 unfoldable pub pixel_answers : Job → SceneParts → ℕ → ℕ → List Answer
-pixel_answers job scene row col = map (sample_of job.cut job.permille scene) (pixel_rays job.camera row col)
+pixel_answers job scene row col = map (sample_of job.cut job.permille job.rule scene) (pixel_rays job.camera row col)
 
 -- the answers at the samples of the pixels of a row
 unfoldable pub row_answers : Job → SceneParts → ℕ → List (List Answer)
-row_answers job scene row = map (map (sample_of job.cut job.permille scene)) (row_rays job.camera row)
+row_answers job scene row = map (map (sample_of job.cut job.permille job.rule scene)) (row_rays job.camera row)
 
 -- the sum over all lights at sample k of a pixel
 unfoldable pub sum_at : Job → SceneParts → ℕ → ℕ → ℕ → Rgb

@@ -3,13 +3,12 @@ use Rattle.std.specs.Prelude.{ℕ, List, [], ◌∷◌, map, flat_map}
 use Rattle.lc_num.specs.declared.channels.Rgb.{Rgb}
 use Rattle.lc_desk.specs.Calls.{Call, begin, put}
 use Rattle.lc_desk.specs.declared.desk.Slot.TheVariants.{Picture}
-use Rattle.lc_view.specs.Samples.{picture_rays}
+use Rattle.lc_view.specs.Samples.{flat, picture_rays}
 use Rattle.lc_job.specs.declared.job.Job.{Job}
 use Rattle.lc_sample.specs.Sampled.{light_of}
 use Rattle.lc_sample.specs.Scenes.{SceneParts}
 use Rattle.lc_tone.specs.Picture.{picture, pixel_bytes}
 use Rattle.lc_tone.specs.Tone as tone
-use Rattle.lc_frame.specs.Frames.{flat}
 
 -- the sums over all lights at the samples of a picture: its rows from the top, of each its pixels from the left, of each
 -- its samples

@@ -67,6 +67,7 @@ fn render_samples<D: Desk, L: Ledger>(
     let ask = Ask {
         permille: job.permille,
         size: job.cut,
+        rule: job.rule,
     };
     let mut line = Line::new();
     let mut sums = Rgb { r: 0, g: 0, b: 0 };

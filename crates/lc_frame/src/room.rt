@@ -30,6 +30,7 @@ fn header_of(job: &Job) -> Header
         grid: job.camera.grid,
         cut: job.cut,
         permille: job.permille,
+        rule: job.rule,
     }
 }
 

@@ -2,7 +2,8 @@
 ghost use Rattle.std.specs.Prelude.{◌≡◌, ◌+◌, ◌*◌, ◌≤◌, ◌<◌, ◌^◌, OnOk, IfErr, IsTrue, flat_map, vec_capacity};
 ghost use Rattle.lc_desk.specs.Calls.{Made};
 ghost use Rattle.lc_job.specs.Jobs.{IsJob};
-ghost use Rattle.lc_frame.specs.Frames.{evals_of, flat, lines_of, row_bytes, row_calls};
+ghost use Rattle.lc_view.specs.Samples.{flat};
+ghost use Rattle.lc_frame.specs.Frames.{evals_of, lines_of, row_bytes, row_calls};
 ghost use Rattle.lc_frame.specs.Parts.{row_answers, with_more};
 ghost use Rattle.lc_frame.specs.Stops.{Broke};
 

@@ -66,6 +66,7 @@ by_keyword ls l key.Seed = refl
 by_keyword ls l key.Error = refl
 by_keyword ls l key.Cut = refl
 by_keyword ls l key.White = refl
+by_keyword ls l key.Rule = refl
 
 -- a line of a keyword takes the place of what was said by it
 draft_of-push : (ls : List Line) (l : Line) (k : Key) → keyword_in l.bytes ≡ word k → draft_of (ls ++ l ∷ []) ≡ taken (entry_by k (rest l.bytes) (values_in l.bytes)) (draft_of ls)
@@ -108,6 +109,7 @@ has-stood ls key.Seed = stood_by ls key.Seed _
 has-stood ls key.Error = stood_by ls key.Error _
 has-stood ls key.Cut = stood_by ls key.Cut _
 has-stood ls key.White = stood_by ls key.White _
+has-stood ls key.Rule = stood_by ls key.Rule _
 
 pub missing_in-missing : (ls : List Line) (draft : Draft) → draft ≡ draft_of ls → missing_in draft ≡ missing ls
 unfolding missing_in missing

@@ -3,6 +3,8 @@ use Rattle.std.proofs.Common.{◌≡◌, ℕ, Bool, true, false, cond, not, List
 use Rattle.std.specs.Prelude.{find, unwrap_or, pos}
 use Rattle.std.specs.Option.{ok_or}
 use Rattle.lc_num.specs.Vectors.{zero_vector}
+use Rattle.lc_num.specs.declared.rules.Rule.{Rule}
+use Rattle.lc_num.specs.declared.rules.Rule.TheVariants as rule
 use Rattle.lc_num.specs.declared.vectors.Vec3.{Vec3}
 use Rattle.lc_view.specs.declared.camera.Camera.{Camera}
 use Rattle.lc_job.specs.Drafts.{camera, has, made, missing_in}
@@ -74,6 +76,7 @@ pub record Makes (d : Draft) (job : Job) : Type 0 where
   pub permille : job.permille ≡ unwrap_or d.error 20
   pub cut : job.cut ≡ unwrap_or d.cut 1000
   pub white : job.white ≡ unwrap_or d.white 10000
+  pub rule : job.rule ≡ unwrap_or d.rule rule.One
 
 unwrapped : {X : Type 0} (o : Option X) (x otherwise : X) → o ≡ Some x → x ≡ unwrap_or o otherwise
 unwrapped {X = X} o x otherwise e = sym (ap (λ (p : Option X). unwrap_or p otherwise) e)
@@ -82,9 +85,9 @@ same_camera : (eye eye' at at' up up' : Vec3) (view view' width width' height he
     → ◌≡◌ {A = Camera} (record { eye = eye; at = at; up = up; view = view; width = width; height = height; grid = grid }) (record { eye = eye'; at = at'; up = up'; view = view'; width = width'; height = height'; grid = grid' })
 same_camera eye eye' at at' up up' view view' width width' height height' grid grid' a b c d e f g = cc
 
-same_job : (scene scene' lights lights' picture picture' bounds bounds' : List ℕ) (camera camera' : Camera) (seed seed' permille permille' cut cut' white white' : ℕ) → scene ≡ scene' → lights ≡ lights' → picture ≡ picture' → bounds ≡ bounds' → camera ≡ camera' → seed ≡ seed' → permille ≡ permille' → cut ≡ cut' → white ≡ white'
-    → ◌≡◌ {A = Job} (record { scene = scene; lights = lights; picture = picture; bounds = bounds; camera = camera; seed = seed; permille = permille; cut = cut; white = white }) (record { scene = scene'; lights = lights'; picture = picture'; bounds = bounds'; camera = camera'; seed = seed'; permille = permille'; cut = cut'; white = white' })
-same_job scene scene' lights lights' picture picture' bounds bounds' camera camera' seed seed' permille permille' cut cut' white white' a b c d e f g h i = cc
+same_job : (scene scene' lights lights' picture picture' bounds bounds' : List ℕ) (camera camera' : Camera) (seed seed' permille permille' cut cut' white white' : ℕ) (rule rule' : Rule) → scene ≡ scene' → lights ≡ lights' → picture ≡ picture' → bounds ≡ bounds' → camera ≡ camera' → seed ≡ seed' → permille ≡ permille' → cut ≡ cut' → white ≡ white' → rule ≡ rule'
+    → ◌≡◌ {A = Job} (record { scene = scene; lights = lights; picture = picture; bounds = bounds; camera = camera; seed = seed; permille = permille; cut = cut; white = white; rule = rule }) (record { scene = scene'; lights = lights'; picture = picture'; bounds = bounds'; camera = camera'; seed = seed'; permille = permille'; cut = cut'; white = white'; rule = rule' })
+same_job scene scene' lights lights' picture picture' bounds bounds' camera camera' seed seed' permille permille' cut cut' white white' rule rule' a b c d e f g h i j = cc
 
 camera_is : (d : Draft) (job : Job) → Makes d job → job.camera ≡ camera d
 camera_is d job h =
@@ -95,5 +98,5 @@ camera_is d job h =
 pub job_is : (d : Draft) (job : Job) → Makes d job → job ≡ made d
 unfolding made
 job_is d job h =
-    same_job _ _ _ _ _ _ _ _ _ _ _ _ _ _ _ _ _ _ (unwrapped d.scene job.scene [] h.scene) (unwrapped d.lights job.lights [] h.lights) (unwrapped d.picture job.picture [] h.picture) (unwrapped d.bounds job.bounds [] h.bounds)
-    (camera_is d job h) h.seed h.permille h.cut h.white
+    same_job _ _ _ _ _ _ _ _ _ _ _ _ _ _ _ _ _ _ _ _ (unwrapped d.scene job.scene [] h.scene) (unwrapped d.lights job.lights [] h.lights) (unwrapped d.picture job.picture [] h.picture) (unwrapped d.bounds job.bounds [] h.bounds)
+    (camera_is d job h) h.seed h.permille h.cut h.white h.rule

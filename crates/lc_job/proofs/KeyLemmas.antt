@@ -37,3 +37,4 @@ key_of-word key.Seed = refl
 key_of-word key.Error = refl
 key_of-word key.Cut = refl
 key_of-word key.White = refl
+key_of-word key.Rule = refl

@@ -1,6 +1,7 @@
 -- What the lines of a job say, by their keywords.
 use Rattle.std.specs.Prelude.{Bool, not, [], Option, Some, None, is_some, find, unwrap_or, pos}
 use Rattle.lc_num.specs.Vectors.{zero_vector}
+use Rattle.lc_num.specs.declared.rules.Rule.TheVariants as rule
 use Rattle.lc_view.specs.declared.camera.Camera.{Camera}
 use Rattle.lc_job.specs.Keys.{required}
 use Rattle.lc_job.specs.declared.draft.Draft.{Draft}
@@ -35,6 +36,7 @@ made d = record {
   permille = unwrap_or d.error 20;
   cut = unwrap_or d.cut 1000;
   white = unwrap_or d.white 10000;
+  rule = unwrap_or d.rule rule.One;
 }
 
 -- ---- clauses of private functions alone speak of the following
@@ -55,6 +57,7 @@ nothing_said = record {
   error = None;
   cut = None;
   white = None;
+  rule = None;
 }
 
 -- something was said by a keyword
@@ -73,6 +76,7 @@ has key.Seed d = is_some d.seed
 has key.Error d = is_some d.error
 has key.Cut d = is_some d.cut
 has key.White d = is_some d.white
+has key.Rule d = is_some d.rule
 
 unfoldable pub missing_in : Draft → Option Key
 missing_in d = find (λ k. not (has k d)) required
@@ -93,3 +97,4 @@ taken (entry.Seed n) d = record d { seed = Some n }
 taken (entry.Error n) d = record d { error = Some n }
 taken (entry.Cut most) d = record d { cut = Some most }
 taken (entry.White units) d = record d { white = Some units }
+taken (entry.Rule r) d = record d { rule = Some r }

@@ -9,7 +9,7 @@ use Rattle.lc_scan.specs.LineTests.{first_kind}
 use Rattle.lc_scan.specs.Spoken.{spoken}
 use Rattle.lc_scan.specs.Faults as faults
 use Rattle.lc_job.specs.Drafts.{made}
-use Rattle.lc_job.specs.JobLine.{amount, keyword_in, kind_of, size, values_in, vector, whole_at}
+use Rattle.lc_job.specs.JobLine.{amount, keyword_in, kind_of, rule, size, values_in, vector, whole_at}
 use Rattle.lc_job.specs.Jobs.{whole_tests}
 use Rattle.lc_job.specs.Keys.{required, word}
 use Rattle.lc_job.specs.Kinds.{kind_number}
@@ -59,6 +59,7 @@ draft_by line = record {
   error = said (whole_at 0) (line key.Error);
   cut = said (whole_at 0) (line key.Cut);
   white = said amount (line key.White);
+  rule = said rule (line key.Rule);
 }
 
 abbrev pub draft_of : List Line → Draft

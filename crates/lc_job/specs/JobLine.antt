@@ -1,6 +1,9 @@
 -- One line of a job file: what it says, and the tests that it has to pass.
-use Rattle.std.specs.Prelude.{ℕ, Bool, false, not, ◌==◌, ◌&&◌, nat_le, nat_lt, List, [], ◌∷◌, drop, length, Option, Some, None, option_map, Result, Ok, Err, is_ok, ℤ, pos, negsuc, unsigned_abs, slice_index_or}
+use Rattle.std.specs.Prelude.{ℕ, Bool, false, not, ◌==◌, ◌&&◌, nat_le, nat_lt, List, [], ◌∷◌, drop, length, Option, Some, None, option_map, unwrap_or, Result, Ok, Err, is_ok, ℤ, pos, negsuc, unsigned_abs, slice_index_or}
 use Rattle.std.specs.List.{list_all}
+use Rattle.lc_num.specs.Rules.{rule_of}
+use Rattle.lc_num.specs.declared.rules.Rule.{Rule}
+use Rattle.lc_num.specs.declared.rules.Rule.TheVariants as rules
 use Rattle.lc_num.specs.declared.vectors.Vec3.{Vec3}
 use Rattle.lc_scan.specs.Fields.{fields, rest}
 use Rattle.lc_scan.specs.Decimal.{decimal_of, units}
@@ -47,6 +50,10 @@ size values = record { width = whole_at 0 values; height = whole_at 1 values }
 abbrev pub amount : List (List ℕ) → ℕ
 amount values = unsigned_abs (decimal_at 0 values)
 
+-- the rule of a number; of another number than 1 and 2 any value stands
+abbrev pub rule : List (List ℕ) → Rule
+rule values = unwrap_or (rule_of (whole_at 0 values)) rules.One
+
 -- what a keyword says by its name or by its values
 abbrev pub entry_by : Key → List ℕ → List (List ℕ) → Entry
 entry_by key.Scene name values = entry.Scene name
@@ -63,6 +70,7 @@ entry_by key.Seed name values = entry.Seed (whole_at 0 values)
 entry_by key.Error name values = entry.Error (whole_at 0 values)
 entry_by key.Cut name values = entry.Cut (whole_at 0 values)
 entry_by key.White name values = entry.White (amount values)
+entry_by key.Rule name values = entry.Rule (rule values)
 
 -- what a line without a fault says
 unfoldable pub entry_of : List ℕ → Option Entry
@@ -126,6 +134,7 @@ tests key.Seed name values = whole_tests 0 18_446_744_073_709_551_615 values
 tests key.Error name values = whole_tests 0 1000 values
 tests key.Cut name values = whole_tests 3 65536 values
 tests key.White name values = amount_tests 100000000 values
+tests key.Rule name values = whole_tests 1 2 values
 
 abbrev pub kind_by : (Key → Bool) → Option Key → List ℕ → List (List ℕ) → Option Kind
 kind_by stood None name values = Some kind.Keyword

@@ -19,6 +19,7 @@ word key.Seed = codes "seed"
 word key.Error = codes "error"
 word key.Cut = codes "cut"
 word key.White = codes "white"
+word key.Rule = codes "rule"
 
 -- the keywords that have to stand, in the order in which one that is missing is told
 abbrev pub required : List Key
@@ -26,7 +27,7 @@ required = key.Scene ∷ key.Lights ∷ key.Picture ∷ key.Bounds ∷ key.Eye �
 
 -- those that may be left out
 abbrev pub optional : List Key
-optional = key.Up ∷ key.View ∷ key.Grid ∷ key.Seed ∷ key.Error ∷ key.Cut ∷ key.White ∷ []
+optional = key.Up ∷ key.View ∷ key.Grid ∷ key.Seed ∷ key.Error ∷ key.Cut ∷ key.White ∷ key.Rule ∷ []
 
 -- the keyword that a field is, if it is one
 unfoldable pub key_of : List ℕ → Option Key

@@ -7,6 +7,7 @@ pub mod JobLine
 pub mod JobFile
 pub use Rattle.lc_num.specs.Vectors
 pub use Rattle.lc_num.specs.Faults
+pub use Rattle.lc_num.specs.Rules
 pub use Rattle.lc_scan.specs.Lines
 pub use Rattle.lc_scan.specs.Fields
 pub use Rattle.lc_scan.specs.Spoken

@@ -5,7 +5,7 @@ ghost use Rattle.lc_job.specs.Drafts.{has, made, missing_in, nothing_said, taken
 use crate::entry::{Entry, Size};
 use crate::job::Job;
 use crate::key::Key;
-use lc_num::{Name, Vec3};
+use lc_num::{Name, Rule, Vec3};
 use lc_view::Camera;
 
 /// What the lines of a job file say, by their keywords.
@@ -25,6 +25,7 @@ pub struct Draft {
     pub error: Option<u32>,
     pub cut: Option<u32>,
     pub white: Option<u64>,
+    pub rule: Option<Rule>,
 }
 
 // A unit in 1/10000.
@@ -50,6 +51,7 @@ impl Draft {
             error: None,
             cut: None,
             white: None,
+            rule: None,
         }
     }
 
@@ -72,6 +74,7 @@ impl Draft {
             Key::Error => self.error.is_some(),
             Key::Cut => self.cut.is_some(),
             Key::White => self.white.is_some(),
+            Key::Rule => self.rule.is_some(),
         }
     }
 
@@ -94,6 +97,7 @@ impl Draft {
             Entry::Error(permille) => self.error = Some(permille),
             Entry::Cut(most) => self.cut = Some(most),
             Entry::White(units) => self.white = Some(units),
+            Entry::Rule(rule) => self.rule = Some(rule),
         }
     }
 
@@ -132,6 +136,7 @@ impl Draft {
             permille: self.error.unwrap_or(20),
             cut: self.cut.unwrap_or(1_000),
             white: self.white.unwrap_or(10_000),
+            rule: self.rule.unwrap_or(Rule::One),
         })
     }
 }

@@ -1,5 +1,5 @@
 // What lines of a job file say.
-use lc_num::{Name, Vec3};
+use lc_num::{Name, Rule, Vec3};
 
 /// The width and the height of a picture, in pixels.
 #[derive(Clone, Copy)]
@@ -25,4 +25,5 @@ pub enum Entry {
     Error(u32),
     Cut(u32),
     White(u64),
+    Rule(Rule),
 }

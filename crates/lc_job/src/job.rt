@@ -1,5 +1,5 @@
 // Jobs.
-use lc_num::Name;
+use lc_num::{Name, Rule};
 use lc_view::Camera;
 
 /// What is to be rendered, from where, how exactly and into which files.
@@ -22,4 +22,6 @@ pub struct Job {
     pub cut: u32,
     /// The white point of the picture, in units of 1/10000: from 1 to 100,000,000.
     pub white: u64,
+    /// The rule by which the bounds of clusters are found.
+    pub rule: Rule,
 }

@@ -19,6 +19,7 @@ pub enum Key {
     Error,
     Cut,
     White,
+    Rule,
 }
 
 impl Key {
@@ -41,6 +42,7 @@ impl Key {
             Key::Error => "error",
             Key::Cut => "cut",
             Key::White => "white",
+            Key::Rule => "rule",
         }
     }
 
@@ -76,6 +78,8 @@ impl Key {
             Some(Key::Cut)
         } else if field == b"white".as_slice() {
             Some(Key::White)
+        } else if field == b"rule".as_slice() {
+            Some(Key::Rule)
         } else {
             None
         }

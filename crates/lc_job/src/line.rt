@@ -11,7 +11,7 @@ use crate::entry::Entry;
 use crate::key::Key;
 use crate::kind::Kind;
 use crate::stop::LineStop;
-use crate::values::{amount, size, vector, whole_within};
+use crate::values::{amount, rule, size, vector, whole_within};
 use lc_num::Name;
 use lc_scan::{Fields, name_of, rest};
 use std::alloc::Global;
@@ -67,6 +67,7 @@ fn entry_by(alloc: Global, key: Key, rest: &[u8], values: &mut Fields) -> Result
         Key::Error => Entry::Error(whole_within(values, 0, MOST_PERMILLE)? as u32),
         Key::Cut => Entry::Cut(whole_within(values, LEAST_CUT, MOST_CUT)? as u32),
         Key::White => Entry::White(amount(values, MOST_WHITE)?),
+        Key::Rule => Entry::Rule(rule(values)?),
     })
 }
 

@@ -1,6 +1,6 @@
 // Worked examples of job files.
 use super::*;
-use lc_num::Vec3;
+use lc_num::{Rule, Vec3};
 use lc_view::Camera;
 use std::alloc::Global;
 use std::process::Abort;
@@ -63,15 +63,15 @@ fn defaults(rt: HostRuntime) {
         }
     );
     assert_eq!(rt;
-        (job.seed, job.permille, job.cut, job.white),
-        (0, 20, 1_000, 10_000)
+        (job.seed, job.permille, job.cut, job.white, job.rule),
+        (0, 20, 1_000, 10_000, Rule::One)
     );
 }
 
 #[test]
 fn every_line(rt: HostRuntime) {
     let text =
-        b"\xEF\xBB\xBFwhite 2.5\ncut 3 # small\n\nerror 0\r\nseed 7\ngrid \\\n 1\nview 1e-4\nup 1 0 -5000\n\tsize 4096 0002\nat .1 -1. +5000\neye 1 2 3\nbounds \xC3\xBC # b\npicture  a b \nlights l\\\nm\nscene # s\n".as_slice();
+        b"\xEF\xBB\xBFwhite 2.5\ncut 3 # small\nrule 2\n\nerror 0\r\nseed 7\ngrid \\\n 1\nview 1e-4\nup 1 0 -5000\n\tsize 4096 0002\nat .1 -1. +5000\neye 1 2 3\nbounds \xC3\xBC # b\npicture  a b \nlights l\\\nm\nscene # s\n".as_slice();
     assert!(rt; text.len() <= 1_000);
     let job = read_job(rt.alloc(), text).expect(&rt, "a job");
     assert_eq!(rt; job.scene.as_str(), "# s");
@@ -91,8 +91,8 @@ fn every_line(rt: HostRuntime) {
         }
     );
     assert_eq!(rt;
-        (job.seed, job.permille, job.cut, job.white),
-        (7, 0, 3, 25_000)
+        (job.seed, job.permille, job.cut, job.white, job.rule),
+        (7, 0, 3, 25_000, Rule::Two)
     );
 }
 
@@ -118,6 +118,11 @@ fn one_line_more(rt: HostRuntime) {
         (b"cut 3 3", 3),
         (b"cut -1", 3),
         (b"cut 3.0", 3),
+        (b"rule 0", 4),
+        (b"rule 3", 4),
+        (b"rule x", 3),
+        (b"rule 1 1", 3),
+        (b"rule", 3),
         (b"up 1 0", 3),
         (b"up 1 0 0 0", 3),
         (b"up 6000 0 x", 3),
@@ -142,6 +147,7 @@ fn one_line_more(rt: HostRuntime) {
         b"view 10",
         b"view 0.0001",
         b"grid 16",
+        b"rule 1",
         b"# zoom 3",
     ] {
         assert_eq!(rt;
@@ -153,6 +159,10 @@ fn one_line_more(rt: HostRuntime) {
     assert_eq!(rt;
         refused(&rt, rt.alloc(), &with(&rt, rt.alloc(), b"up 0 0 1")),
         fault(0, 6)
+    );
+    assert_eq!(rt;
+        refused(&rt, rt.alloc(), &with(&rt, rt.alloc(), b"rule 1\nrule 1")),
+        fault(9, 2)
     );
 }
 
@@ -192,4 +202,5 @@ fn one_line_replaced(rt: HostRuntime) {
 fn words(rt: HostRuntime) {
     assert_eq!(rt; Key::Size.word(), "size");
     assert_eq!(rt; Key::White.word(), "white");
+    assert_eq!(rt; Key::Rule.word(), "rule");
 }

@@ -4,11 +4,11 @@ ghost use Rattle.lc_num.specs.Vectors.{Within};
 ghost use Rattle.lc_scan.specs.Decimal.{decimal_of};
 ghost use Rattle.lc_scan.specs.LineTests.{first_kind};
 ghost use Rattle.lc_scan.specs.Whole.{whole_of};
-ghost use Rattle.lc_job.specs.JobLine.{amount, amount_tests, is_between, is_place, size, size_tests, vector, vector_tests, whole_at, whole_tests};
+ghost use Rattle.lc_job.specs.JobLine.{amount, amount_tests, is_between, is_place, rule, size, size_tests, vector, vector_tests, whole_at, whole_tests};
 
 use crate::entry::Size;
 use crate::kind::Kind;
-use lc_num::Vec3;
+use lc_num::{Rule, Vec3};
 use lc_scan::{Fields, decimal, whole};
 
 const MOST_COORDINATE: u64 = 50_000_000;
@@ -151,4 +151,17 @@ pub fn whole_within(values: &mut Fields, least: u64, most: u64) -> Result<u64, K
         return Err(Kind::Range);
     }
     Ok(n)
+}
+
+/// The rule of a number, 1 or 2.
+pub fn rule(values: &mut Fields) -> Result<Rule, Kind>
+    ensures { MatchResult result
+        (λ r. (first_kind (whole_tests 1 2 values.old) ≡ None) × (rule values.old ≡ r))
+        (λ kind. first_kind (whole_tests 1 2 values.old) ≡ Some kind) }
+{
+    let Some(value) = one(values) else {
+        return Err(Kind::Form);
+    };
+    let number = whole_in(value)?;
+    Rule::of(number).ok_or(Kind::Range)
 }

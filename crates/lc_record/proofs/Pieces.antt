@@ -2,7 +2,10 @@
 use Rattle.std.proofs.Common.{◌≡◌, ℕ, ◌*◌, ◌-◌, ◌^◌, ◌<◌, ◌≤◌, List, [], ◌∷◌, ◌++◌, codes, refl, sym, ap, ◌∙◌, arith, append_assoc}
 use Rattle.std.proofs.lemmas.List.{append_cancel_left}
 use Rattle.lc_num.specs.Channels.{IsRgbWithin}
+use Rattle.lc_num.specs.Rules.{rule_number}
 use Rattle.lc_num.specs.declared.channels.Rgb.{Rgb}
+use Rattle.lc_num.specs.declared.rules.Rule.{Rule}
+use Rattle.lc_num.specs.declared.rules.Rule.TheVariants as rule
 use Rattle.lc_rated.specs.declared.answer.Answer.{Answer}
 use Rattle.lc_record.specs.declared.head.Header.{Header}
 use Rattle.lc_record.specs.Record.{IsHeader, IsSample, header_bytes, line_bytes}
@@ -88,7 +91,8 @@ lines_same cut a b x y few v w e =
       bound.1,
     )
 
--- a header from the thousandths on, from the cut on, from the grid on, from the rows on, and from the columns on
+-- a header from the thousandths on, from the cut on, from the grid on, from the rows on, from the columns on, and from the
+-- number of its rule on
 abbrev pub from_permille : Header → List ℕ → List ℕ
 from_permille h after = ended 10 h.permille ++ after
 
@@ -104,13 +108,32 @@ from_height h after = ended 32 h.height ++ from_grid h after
 abbrev pub from_width : Header → List ℕ → List ℕ
 from_width h after = ended 32 h.width ++ from_height h after
 
-pub header_parts : (h : Header) (after : List ℕ) → header_bytes h ++ after ≡ codes "LCB 1 " ++ from_width h after
+abbrev pub from_rule : Header → List ℕ → List ℕ
+from_rule h after = ended 32 (rule_number h.rule) ++ from_width h after
+
+pub header_parts : (h : Header) (after : List ℕ) → header_bytes h ++ after ≡ codes "LCB " ++ from_rule h after
 unfolding header_bytes
 header_parts h after = simp append_assoc
 
+rule_small : (r : Rule) → rule_number r < 2 ^ 120
+rule_small rule.One = omega arith
+rule_small rule.Two = omega arith
+
+-- a number is of one rule
+rules_same : (r s : Rule) → rule_number r ≡ rule_number s → r ≡ s
+rules_same rule.One rule.One e = refl
+rules_same rule.One rule.Two e = absurd (omega (arith, e))
+rules_same rule.Two rule.One e = absurd (omega (arith, e))
+rules_same rule.Two rule.Two e = refl
+
 module _ (h : Header) (after : List ℕ) (valid : IsHeader h) (x bytes : List ℕ) where
-  pub mark_same : bytes ≡ codes "LCB 1 " ++ x → bytes ≡ header_bytes h ++ after → x ≡ from_width h after
-  mark_same found e = append_cancel_left (codes "LCB 1 ") x (from_width h after) (sym found ∙ e ∙ header_parts h after)
+  pub mark_same : bytes ≡ codes "LCB " ++ x → bytes ≡ header_bytes h ++ after → x ≡ from_rule h after
+  mark_same found e = append_cancel_left (codes "LCB ") x (from_rule h after) (sym found ∙ e ∙ header_parts h after)
+
+  pub rule_same : (r : Rule) → bytes ≡ ended 32 (rule_number r) ++ x → bytes ≡ from_rule h after → (r ≡ h.rule) × (x ≡ from_width h after)
+  rule_same r found e =
+      let same = numbers_same 32 (rule_number r) (rule_number h.rule) x (from_width h after) bytes (omega arith) (rule_small r) (rule_small h.rule) found e in
+      (rules_same r h.rule same.0, same.1)
 
   module _ (n : ℕ) where
     pub width_same : IsWithin 1 4096 n × (bytes ≡ ended 32 n ++ x) → bytes ≡ from_width h after → (n ≡ h.width) × (x ≡ from_height h after)
@@ -128,19 +151,21 @@ module _ (h : Header) (after : List ℕ) (valid : IsHeader h) (x bytes : List �
     permille_same : IsWithin 0 1000 n × (bytes ≡ ended 10 n ++ x) → bytes ≡ from_permille h after → (n ≡ h.permille) × (x ≡ after)
     permille_same found e = numbers_same 10 n h.permille x after bytes (omega arith) (omega (arith, found.0)) (omega (arith, valid.permille)) found.1 e
 
-abbrev header : ℕ → ℕ → ℕ → ℕ → ℕ → Header
-header width height grid cut permille = record { width = width; height = height; grid = grid; cut = cut; permille = permille }
+abbrev header : Rule → ℕ → ℕ → ℕ → ℕ → ℕ → Header
+header rule width height grid cut permille = record { rule = rule; width = width; height = height; grid = grid; cut = cut; permille = permille }
 
 pub headers_same : (h k : Header) (x y : List ℕ) → IsHeader h → IsHeader k → header_bytes h ++ x ≡ header_bytes k ++ y → (h ≡ k) × (x ≡ y)
 headers_same h k x y v w e =
-    let mark = mark_same k y w (from_width h x) (header_bytes h ++ x) (header_parts h x) e in
-    let width = width_same k y w (from_height h x) (from_width h x) h.width (v.width, refl) mark in
+    let mark = mark_same k y w (from_rule h x) (header_bytes h ++ x) (header_parts h x) e in
+    let rule = rule_same k y w (from_width h x) (from_rule h x) h.rule refl mark in
+    let width = width_same k y w (from_height h x) (from_width h x) h.width (v.width, refl) rule.1 in
     let height = height_same k y w (from_grid h x) (from_height h x) h.height (v.height, refl) width.1 in
     let grid = grid_same k y w (from_cut h x) (from_grid h x) h.grid (v.grid, refl) height.1 in
     let cut = cut_same k y w (from_permille h x) (from_cut h x) h.cut (v.cut, refl) grid.1 in
     let permille = permille_same k y w x (from_permille h x) h.permille ((omega arith, v.permille), refl) cut.1 in (
-      ap (λ n. header n h.height h.grid h.cut h.permille) width.0 ∙ ap (λ n. header k.width n h.grid h.cut h.permille) height.0
-          ∙ ap (λ n. header k.width k.height n h.cut h.permille) grid.0 ∙ ap (λ n. header k.width k.height k.grid n h.permille) cut.0
-          ∙ ap (λ n. header k.width k.height k.grid k.cut n) permille.0,
+      ap (λ r. header r h.width h.height h.grid h.cut h.permille) rule.0
+          ∙ ap (λ n. header k.rule n h.height h.grid h.cut h.permille) width.0 ∙ ap (λ n. header k.rule k.width n h.grid h.cut h.permille) height.0
+          ∙ ap (λ n. header k.rule k.width k.height n h.cut h.permille) grid.0 ∙ ap (λ n. header k.rule k.width k.height k.grid n h.permille) cut.0
+          ∙ ap (λ n. header k.rule k.width k.height k.grid k.cut n) permille.0,
       permille.1,
     )

@@ -1,6 +1,7 @@
 -- The bytes of a record: its header, and a line for each sample.
 use Rattle.std.specs.Prelude.{ℕ, ◌*◌, ◌-◌, ◌^◌, ◌≤◌, List, ◌++◌, codes, decimal, flat_map}
 use Rattle.lc_num.specs.Channels.{IsRgbWithin}
+use Rattle.lc_num.specs.Rules.{rule_number}
 use Rattle.lc_rated.specs.declared.answer.Answer.{Answer}
 use Rattle.lc_record.specs.declared.head.Header.{Header}
 
@@ -8,9 +9,11 @@ use Rattle.lc_record.specs.declared.head.Header.{Header}
 abbrev pub field : ℕ → List ℕ
 field n = decimal n ++ codes " "
 
+-- the number of the rule, the width, the height, the grid, the cut and the thousandths
 unfoldable pub header_bytes : Header → List ℕ
 header_bytes h =
-    codes "LCB 1 " ++ field h.width ++ field h.height ++ field h.grid ++ field h.cut ++ decimal h.permille ++ codes "\n"
+    codes "LCB " ++ field (rule_number h.rule) ++ field h.width ++ field h.height ++ field h.grid ++ field h.cut
+    ++ decimal h.permille ++ codes "\n"
 
 -- size, evaluations, estimate and bound of an answer, in each channel
 unfoldable pub line_bytes : Answer → List ℕ
@@ -25,7 +28,7 @@ pub record IsSample (most : ℕ) (a : Answer) : Type 0 where
   pub est : IsRgbWithin (2 ^ 117 - 1) a.est
   pub bound : IsRgbWithin (2 ^ 117 - 1) a.bound
 
--- the ranges of a header
+-- the ranges of a header; its rule may be either
 pub record IsHeader (h : Header) : Type 0 where
   pub width : (1 ≤ h.width) × (h.width ≤ 4096)
   pub height : (1 ≤ h.height) × (h.height ≤ 4096)

@@ -3,11 +3,13 @@ ghost use Rattle.std.specs.Prelude.{◌≡◌, ◌++◌, OnOk, OnErr};
 ghost use Rattle.lc_record.specs.Record.{header_bytes};
 
 use crate::line::Line;
-use lc_num::{Memory, Text};
+use lc_num::{Memory, Rule, Text};
 
 /// What a record was made with.
 #[derive(Clone, Copy, Debug, PartialEq, Eq)]
 pub struct Header {
+    /// The rule by which clusters are bounded.
+    pub rule: Rule,
     /// The columns of the picture, 1 to 4096.
     pub width: u32,
     /// The rows of the picture, 1 to 4096.
@@ -27,7 +29,8 @@ pub fn header_text(h: &Header, into: &mut Text) -> Result<(), Memory>
     ensures memory { OnErr result (into.new ≡ into.old) }
 {
     let mut line = Line::new();
-    line.push("LCB 1 ");
+    line.push("LCB ");
+    line.push_field(h.rule.number());
     line.push_field(h.width);
     line.push_field(h.height);
     line.push_field(h.grid);

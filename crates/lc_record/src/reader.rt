@@ -2,9 +2,11 @@
 ghost use Rattle.std.specs.Prelude.{◌≡◌, ◌≢◌, ◌+◌, ◌-◌, ◌^◌, ◌<◌, ◌≤◌, ◌++◌, ℕ, List as Items, length, codes, Ok, IfOk, IfErr, IfSome, IfNone};
 ghost use Rattle.lc_num.specs.Channels.{IsRgbWithin};
 ghost use Rattle.lc_num.specs.Faults.{Fault};
+ghost use Rattle.lc_num.specs.Rules.{rule_number};
+ghost use Rattle.lc_num.specs.declared.rules.Rule.{Rule as RuleValue};
 ghost use Rattle.lc_rated.specs.declared.answer.Answer.{Answer as AnswerValue};
 ghost use Rattle.lc_record.specs.declared.head.Header.{Header as HeaderValue};
-ghost use Rattle.lc_record.specs.Record.{IsHeader, IsSample, header_bytes, line_bytes};
+ghost use Rattle.lc_record.specs.Record.{IsHeader, IsSample, field, header_bytes, line_bytes};
 ghost use Rattle.lc_record.specs.Reading.{Begins, samples, IsTextOf, IsFirstFault, IsLineFault, IsStop, OrMemory, kind_number};
 ghost use Rattle.lc_record.specs.Pieces.{colour, AreLinesOf};
 
@@ -12,7 +14,7 @@ use crate::head::Header;
 use crate::kind::Kind;
 use crate::number::number;
 use crate::stop::RecordStop;
-use lc_num::{List, Rgb};
+use lc_num::{List, Rgb, Rule};
 use lc_rated::Answer;
 use std::alloc::Global;
 
@@ -28,12 +30,22 @@ pub struct Record {
     pub lines: List<Answer>,
 }
 
-/// The bytes after the name and the version of the format.
+/// The bytes after the name of the format.
 fn after_mark(bytes: &[u8]) -> Option<&[u8]>
-    ensures found { IfSome result (λ rest. bytes.now ≡ codes "LCB 1 " ++ rest.now) }
-    ensures none { IfNone result ((rest : Items ℕ) → bytes.now ≢ codes "LCB 1 " ++ rest) }
+    ensures found { IfSome result (λ rest. bytes.now ≡ codes "LCB " ++ rest.now) }
+    ensures none { IfNone result ((rest : Items ℕ) → bytes.now ≢ codes "LCB " ++ rest) }
 {
-    bytes.strip_prefix(b"LCB 1 ".as_slice())
+    bytes.strip_prefix(b"LCB ".as_slice())
+}
+
+/// The rule whose number the bytes begin with, and the bytes after it and a blank.
+fn rule_in(bytes: &[u8]) -> Option<(Rule, &[u8])>
+    ensures found { IfSome result (λ read. bytes.now ≡ field (rule_number read.0) ++ read.1.now) }
+    ensures none { IfNone result ((rule : RuleValue) (rest : Items ℕ) → bytes.now ≢ field (rule_number rule) ++ rest) }
+{
+    let (version, rest) = number(bytes, 1, 2, b' ')?;
+    let rule = Rule::of(version as u64)?;
+    Some((rule, rest))
 }
 
 /// The header that the bytes begin with, and the bytes after it.
@@ -42,12 +54,14 @@ fn header_of(bytes: &[u8]) -> Option<(Header, &[u8])>
     ensures none { IfNone result (Begins IsHeader header_bytes bytes.now → ⊥) }
 {
     let rest = after_mark(bytes)?;
+    let (rule, rest) = rule_in(rest)?;
     let (width, rest) = number(rest, 1, 4096, b' ')?;
     let (height, rest) = number(rest, 1, 4096, b' ')?;
     let (grid, rest) = number(rest, 1, 16, b' ')?;
     let (cut, rest) = number(rest, 3, 65_536, b' ')?;
     let (permille, rest) = number(rest, 0, 1000, b'\n')?;
     let header = Header {
+        rule,
         width: width as u32,
         height: height as u32,
         grid: grid as u32,

@@ -3,7 +3,7 @@ ghost use Rattle.std.specs.Prelude.{◌≡◌};
 ghost use Rattle.lc_record.specs.Record.{IsSample};
 
 use super::*;
-use lc_num::{Memory, Rgb, Text};
+use lc_num::{Memory, Rgb, Rule, Text};
 use lc_rated::Answer;
 use std::alloc::Global;
 use std::process::Abort;
@@ -13,6 +13,7 @@ use std::test::*;
 fn headers(rt: HostRuntime) -> Result<(), Fail> {
     let mut text = Text::new(rt.alloc());
     let least = Header {
+        rule: Rule::One,
         width: 1,
         height: 1,
         grid: 1,
@@ -23,6 +24,7 @@ fn headers(rt: HostRuntime) -> Result<(), Fail> {
     assert_eq!(rt; text.as_slice(), b"LCB 1 1 1 1 1000 20\n".as_slice());
     // Each number in its place, after what the text held.
     let other = Header {
+        rule: Rule::Two,
         width: 64,
         height: 4096,
         grid: 16,
@@ -32,9 +34,10 @@ fn headers(rt: HostRuntime) -> Result<(), Fail> {
     assert_eq!(rt; header_text(&other, &mut text), Ok(()));
     assert_eq!(rt;
         text.as_slice(),
-        b"LCB 1 1 1 1 1000 20\nLCB 1 64 4096 16 65536 0\n".as_slice()
+        b"LCB 1 1 1 1 1000 20\nLCB 2 64 4096 16 65536 0\n".as_slice()
     );
     let most = Header {
+        rule: Rule::Two,
         width: u32::MAX,
         height: u32::MAX,
         grid: u32::MAX,
@@ -45,7 +48,7 @@ fn headers(rt: HostRuntime) -> Result<(), Fail> {
     assert_eq!(rt; header_text(&most, &mut text), Ok(()));
     assert_eq!(rt;
         text.as_slice(),
-        b"LCB 1 4294967295 4294967295 4294967295 4294967295 4294967295\n".as_slice()
+        b"LCB 2 4294967295 4294967295 4294967295 4294967295 4294967295\n".as_slice()
     );
     Ok(())
 }
@@ -126,16 +129,16 @@ fn answer(size: u32, evals: u32, est: u128, bound: u128) -> Answer {
 
 #[test]
 fn records(rt: HostRuntime) {
-    for (text, numbers, line) in [
+    for (text, parts, line) in [
         (
             b"LCB 1 1 1 1 1000 20\n1 1 5242880000000000000000 5242880000000000000000 5242880000000000000000 0 0 0\n".as_slice(),
-            (1, 1, 1, 1_000, 20),
+            (Rule::One, 1, 1, 1, 1_000, 20),
             answer(1, 1, 5_242_880_000_000_000_000_000, 0),
         ),
         // Each number in its place.
         (
             b"LCB 1 1 1 1 1000 0\n2 3 4 5 6 7 8 9\n",
-            (1, 1, 1, 1_000, 0),
+            (Rule::One, 1, 1, 1, 1_000, 0),
             Answer {
                 size: 2,
                 evals: 3,
@@ -145,24 +148,25 @@ fn records(rt: HostRuntime) {
         ),
         // The greatest of each number.
         (
-            b"LCB 1 1 1 1 65536 1000\n65536 131072 166153499473114484112975882535043071 166153499473114484112975882535043071 166153499473114484112975882535043071 166153499473114484112975882535043071 166153499473114484112975882535043071 166153499473114484112975882535043071\n",
-            (1, 1, 1, 65_536, 1_000),
+            b"LCB 2 1 1 1 65536 1000\n65536 131072 166153499473114484112975882535043071 166153499473114484112975882535043071 166153499473114484112975882535043071 166153499473114484112975882535043071 166153499473114484112975882535043071 166153499473114484112975882535043071\n",
+            (Rule::Two, 1, 1, 1, 65_536, 1_000),
             answer(65_536, 131_072, MOST, MOST),
         ),
         (
             b"LCB 1 1 1 1 3 0\n3 6 0 0 0 10 10 10\n",
-            (1, 1, 1, 3, 0),
+            (Rule::One, 1, 1, 1, 3, 0),
             answer(3, 6, 0, 10),
         ),
     ] {
         assert!(rt; text.len() <= 1_000);
         let record = read_record(rt.alloc(), text).expect(&rt, "a record");
         let header = Header {
-            width: numbers.0,
-            height: numbers.1,
-            grid: numbers.2,
-            cut: numbers.3,
-            permille: numbers.4,
+            rule: parts.0,
+            width: parts.1,
+            height: parts.2,
+            grid: parts.3,
+            cut: parts.4,
+            permille: parts.5,
         };
         assert_eq!(rt; record.header, header, "at {text:?}");
         assert_eq!(rt; record.lines.as_slice(), [line].as_slice(), "at {text:?}");
@@ -212,7 +216,12 @@ fn no_headers(rt: HostRuntime) {
         b"LCB 1 1\t1 1 1000 20\n1 1 0 0 0 0 0 0\n",
         b" LCB 1 1 1 1 1000 20\n1 1 0 0 0 0 0 0\n",
         b"lcb 1 1 1 1 1000 20\n1 1 0 0 0 0 0 0\n",
-        b"LCB 2 1 1 1 1000 20\n1 1 0 0 0 0 0 0\n",
+        b"LCB 0 1 1 1 1000 20\n1 1 0 0 0 0 0 0\n",
+        b"LCB 3 1 1 1 1000 20\n1 1 0 0 0 0 0 0\n",
+        b"LCB 01 1 1 1 1000 20\n1 1 0 0 0 0 0 0\n",
+        b"LCB 11 1 1 1 1000 20\n1 1 0 0 0 0 0 0\n",
+        b"LCB  1 1 1 1 1000 20\n1 1 0 0 0 0 0 0\n",
+        b"LCB 1 1 1 1000 20\n1 1 0 0 0 0 0 0\n",
         b"LCB 2 1 1 1 1000 20 0\n1 1 0 0 0 0 0 0\n",
         b"\xEF\xBB\xBFLCB 1 1 1 1 1000 20\n1 1 0 0 0 0 0 0\n",
         b"LCB 1 1 1 1 1000\n1 1 0 0 0 0 0 0\n",

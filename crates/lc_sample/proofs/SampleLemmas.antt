@@ -5,6 +5,7 @@ use Rattle.std.proofs.lemmas.Int.{ints}
 use Rattle.lc_num.specs.Channels.{IsRgbWithin, black}
 use Rattle.lc_num.specs.Vectors.{Within, difference, dot, square, zero_vector}
 use Rattle.lc_num.specs.declared.channels.Rgb.{Rgb}
+use Rattle.lc_num.specs.declared.rules.Rule.{Rule}
 use Rattle.lc_num.specs.declared.vectors.Vec3.{Vec3}
 use Rattle.lc_num.proofs.ScaledLemmas.{scaled_within}
 use Rattle.lc_geom.specs.Crossing.{side}
@@ -107,17 +108,17 @@ pub hit_seen : (scene : SceneParts) (ray : Ray) (hit : Hit) (spot : Spot) → ne
 unfolding spot_seen
 hit_seen scene ray hit spot h k = rw h (sym k)
 
-pub sample_none : (size permille : ℕ) (scene : SceneParts) (ray : Ray) (a : Answer) → spot_seen scene ray ≡ None → a ≡ no_answer → a ≡ sample_of size permille scene ray
+pub sample_none : (size permille : ℕ) (r : Rule) (scene : SceneParts) (ray : Ray) (a : Answer) → spot_seen scene ray ≡ None → a ≡ no_answer → a ≡ sample_of size permille r scene ray
 unfolding sample_of
-sample_none size permille scene ray a h e = rw h e
+sample_none size permille r scene ray a h e = rw h e
 
-pub sample_some : (size permille : ℕ) (parts scene : SceneParts) (ray : Ray) (spot : Spot) (ts : List Tri) (a : Answer) → ts ≡ triangles_of parts → parts ≡ scene → spot_seen scene ray ≡ Some spot → a ≡ answer size permille (trees_of ts spot parts.forest) → a ≡ sample_of size permille scene ray
+pub sample_some : (size permille : ℕ) (r : Rule) (parts scene : SceneParts) (ray : Ray) (spot : Spot) (ts : List Tri) (a : Answer) → ts ≡ triangles_of parts → parts ≡ scene → spot_seen scene ray ≡ Some spot → a ≡ answer size permille (trees_of ts spot r parts.forest) → a ≡ sample_of size permille r scene ray
 unfolding sample_of
-sample_some size permille parts scene ray spot ts a kept same h e =
+sample_some size permille r parts scene ray spot ts a kept same h e =
     rw h
     (e
-    ∙ ap (λ (us : List Tri). answer size permille (trees_of us spot parts.forest)) kept
-    ∙ ap (λ (s : SceneParts). answer size permille (trees_of (triangles_of s) spot s.forest)) same)
+    ∙ ap (λ (us : List Tri). answer size permille (trees_of us spot r parts.forest)) kept
+    ∙ ap (λ (s : SceneParts). answer size permille (trees_of (triangles_of s) spot r s.forest)) same)
 
 pub light_none : (scene : SceneParts) (ray : Ray) → spot_seen scene ray ≡ None → black ≡ light_of scene ray
 unfolding light_of
@@ -133,60 +134,60 @@ light_some parts scene ray spot ts light kept same h e =
 
 -- ---- what it says
 
-near_at : (size permille : ℕ) (scene : SceneParts) (o : Option Spot) → IsScene scene → IfSome o IsSpot → IsNear (light_at scene o) (answer_at size permille scene o)
-near_at size permille scene None h hs = record { red = omega arith; green = omega arith; blue = omega arith }
-near_at size permille scene (Some spot) h hs = answer_near (triangles_of scene) spot hs scene.forest h.forest size permille
+near_at : (size permille : ℕ) (r : Rule) (scene : SceneParts) (o : Option Spot) → IsScene scene → IfSome o IsSpot → IsNear (light_at scene o) (answer_at size permille r scene o)
+near_at size permille r scene None h hs = record { red = omega arith; green = omega arith; blue = omega arith }
+near_at size permille r scene (Some spot) h hs = answer_near (triangles_of scene) spot hs r scene.forest h.forest size permille
 
-pub sample_near : (size permille : ℕ) (scene : SceneParts) (ray : Ray) → IsScene scene → IsNear (light_of scene ray) (sample_of size permille scene ray)
+pub sample_near : (size permille : ℕ) (r : Rule) (scene : SceneParts) (ray : Ray) → IsScene scene → IsNear (light_of scene ray) (sample_of size permille r scene ray)
 unfolding light_of sample_of
-sample_near size permille scene ray h = near_at size permille scene (spot_seen scene ray) h (seen_valid scene ray h)
+sample_near size permille r scene ray h = near_at size permille r scene (spot_seen scene ray) h (seen_valid scene ray h)
 
-fraction_at : (size permille : ℕ) (scene : SceneParts) (o : Option Spot) → 3 ≤ size → ((answer_at size permille scene o).size ≡ size) ⊎ IsFraction permille (answer_at size permille scene o)
-fraction_at size permille scene None least = inr (record { red = omega arith; green = omega arith; blue = omega arith })
-fraction_at size permille scene (Some spot) least = fraction size permille (trees_of (triangles_of scene) spot scene.forest) least
+fraction_at : (size permille : ℕ) (r : Rule) (scene : SceneParts) (o : Option Spot) → 3 ≤ size → ((answer_at size permille r scene o).size ≡ size) ⊎ IsFraction permille (answer_at size permille r scene o)
+fraction_at size permille r scene None least = inr (record { red = omega arith; green = omega arith; blue = omega arith })
+fraction_at size permille r scene (Some spot) least = fraction size permille (trees_of (triangles_of scene) spot r scene.forest) least
 
-pub sample_fraction : (size permille : ℕ) (scene : SceneParts) (ray : Ray) → 3 ≤ size → ((sample_of size permille scene ray).size ≡ size) ⊎ IsFraction permille (sample_of size permille scene ray)
+pub sample_fraction : (size permille : ℕ) (r : Rule) (scene : SceneParts) (ray : Ray) → 3 ≤ size → ((sample_of size permille r scene ray).size ≡ size) ⊎ IsFraction permille (sample_of size permille r scene ray)
 unfolding sample_of
-sample_fraction size permille scene ray = fraction_at size permille scene (spot_seen scene ray)
+sample_fraction size permille r scene ray = fraction_at size permille r scene (spot_seen scene ray)
 
-size_at : (size permille : ℕ) (scene : SceneParts) (o : Option Spot) → 3 ≤ size → (answer_at size permille scene o).size ≤ size
-size_at size permille scene None least = omega arith
-size_at size permille scene (Some spot) least = size_most size permille (trees_of (triangles_of scene) spot scene.forest) least
+size_at : (size permille : ℕ) (r : Rule) (scene : SceneParts) (o : Option Spot) → 3 ≤ size → (answer_at size permille r scene o).size ≤ size
+size_at size permille r scene None least = omega arith
+size_at size permille r scene (Some spot) least = size_most size permille (trees_of (triangles_of scene) spot r scene.forest) least
 
-pub sample_size : (size permille : ℕ) (scene : SceneParts) (ray : Ray) → 3 ≤ size → (sample_of size permille scene ray).size ≤ size
+pub sample_size : (size permille : ℕ) (r : Rule) (scene : SceneParts) (ray : Ray) → 3 ≤ size → (sample_of size permille r scene ray).size ≤ size
 unfolding sample_of
-sample_size size permille scene ray = size_at size permille scene (spot_seen scene ray)
+sample_size size permille r scene ray = size_at size permille r scene (spot_seen scene ray)
 
-evals_at : (size permille : ℕ) (scene : SceneParts) (o : Option Spot) → 3 ≤ size → (answer_at size permille scene o).evals ≤ 2 * size
-evals_at size permille scene None least = omega arith
-evals_at size permille scene (Some spot) least = evals_most size permille (trees_of (triangles_of scene) spot scene.forest) least
+evals_at : (size permille : ℕ) (r : Rule) (scene : SceneParts) (o : Option Spot) → 3 ≤ size → (answer_at size permille r scene o).evals ≤ 2 * size
+evals_at size permille r scene None least = omega arith
+evals_at size permille r scene (Some spot) least = evals_most size permille (trees_of (triangles_of scene) spot r scene.forest) least
 
-pub sample_evals : (size permille : ℕ) (scene : SceneParts) (ray : Ray) → 3 ≤ size → (sample_of size permille scene ray).evals ≤ 2 * size
+pub sample_evals : (size permille : ℕ) (r : Rule) (scene : SceneParts) (ray : Ray) → 3 ≤ size → (sample_of size permille r scene ray).evals ≤ 2 * size
 unfolding sample_of
-sample_evals size permille scene ray = evals_at size permille scene (spot_seen scene ray)
+sample_evals size permille r scene ray = evals_at size permille r scene (spot_seen scene ray)
 
-each_at : (size permille : ℕ) (scene : SceneParts) (o : Option Spot) → (answer_at size permille scene o).evals ≡ (answer_at size permille scene o).size
-each_at size permille scene None = refl
-each_at size permille scene (Some spot) = refl
+each_at : (size permille : ℕ) (r : Rule) (scene : SceneParts) (o : Option Spot) → (answer_at size permille r scene o).evals ≡ (answer_at size permille r scene o).size
+each_at size permille r scene None = refl
+each_at size permille r scene (Some spot) = refl
 
-pub sample_each : (size permille : ℕ) (scene : SceneParts) (ray : Ray) → (sample_of size permille scene ray).evals ≡ (sample_of size permille scene ray).size
+pub sample_each : (size permille : ℕ) (r : Rule) (scene : SceneParts) (ray : Ray) → (sample_of size permille r scene ray).evals ≡ (sample_of size permille r scene ray).size
 unfolding sample_of
-sample_each size permille scene ray = each_at size permille scene (spot_seen scene ray)
+sample_each size permille r scene ray = each_at size permille r scene (spot_seen scene ray)
 
-est_at : (size permille : ℕ) (scene : SceneParts) (o : Option Spot) → IsScene scene → IfSome o IsSpot → IsRgbWithin (2 ^ 117 - 1) (answer_at size permille scene o).est
-est_at size permille scene None h hs = record { r = omega arith; g = omega arith; b = omega arith }
-est_at size permille scene (Some spot) h hs =
-    let ts = triangles_of scene in answer_est_within size permille (trees_of ts spot scene.forest) (trees_limited ts spot hs scene.forest h.forest)
+est_at : (size permille : ℕ) (r : Rule) (scene : SceneParts) (o : Option Spot) → IsScene scene → IfSome o IsSpot → IsRgbWithin (2 ^ 117 - 1) (answer_at size permille r scene o).est
+est_at size permille r scene None h hs = record { r = omega arith; g = omega arith; b = omega arith }
+est_at size permille r scene (Some spot) h hs =
+    let ts = triangles_of scene in answer_est_within size permille (trees_of ts spot r scene.forest) (trees_limited ts spot hs r scene.forest h.forest)
 
-pub sample_est : (size permille : ℕ) (scene : SceneParts) (ray : Ray) → IsScene scene → IsRgbWithin (2 ^ 117 - 1) (sample_of size permille scene ray).est
+pub sample_est : (size permille : ℕ) (r : Rule) (scene : SceneParts) (ray : Ray) → IsScene scene → IsRgbWithin (2 ^ 117 - 1) (sample_of size permille r scene ray).est
 unfolding sample_of
-sample_est size permille scene ray h = est_at size permille scene (spot_seen scene ray) h (seen_valid scene ray h)
+sample_est size permille r scene ray h = est_at size permille r scene (spot_seen scene ray) h (seen_valid scene ray h)
 
-bound_at : (size permille : ℕ) (scene : SceneParts) (o : Option Spot) → IsScene scene → IfSome o IsSpot → IsRgbWithin (2 ^ 117 - 1) (answer_at size permille scene o).bound
-bound_at size permille scene None h hs = record { r = omega arith; g = omega arith; b = omega arith }
-bound_at size permille scene (Some spot) h hs =
-    let ts = triangles_of scene in answer_bound_within size permille (trees_of ts spot scene.forest) (trees_limited ts spot hs scene.forest h.forest)
+bound_at : (size permille : ℕ) (r : Rule) (scene : SceneParts) (o : Option Spot) → IsScene scene → IfSome o IsSpot → IsRgbWithin (2 ^ 117 - 1) (answer_at size permille r scene o).bound
+bound_at size permille r scene None h hs = record { r = omega arith; g = omega arith; b = omega arith }
+bound_at size permille r scene (Some spot) h hs =
+    let ts = triangles_of scene in answer_bound_within size permille (trees_of ts spot r scene.forest) (trees_limited ts spot hs r scene.forest h.forest)
 
-pub sample_bound : (size permille : ℕ) (scene : SceneParts) (ray : Ray) → IsScene scene → IsRgbWithin (2 ^ 117 - 1) (sample_of size permille scene ray).bound
+pub sample_bound : (size permille : ℕ) (r : Rule) (scene : SceneParts) (ray : Ray) → IsScene scene → IsRgbWithin (2 ^ 117 - 1) (sample_of size permille r scene ray).bound
 unfolding sample_of
-sample_bound size permille scene ray h = bound_at size permille scene (spot_seen scene ray) h (seen_valid scene ray h)
+sample_bound size permille r scene ray h = bound_at size permille r scene (spot_seen scene ray) h (seen_valid scene ray h)

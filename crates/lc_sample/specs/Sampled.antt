@@ -2,6 +2,7 @@
 use Rattle.std.specs.Prelude.{ℕ, Option, Some, None, option_map, option_and_then, slice_get}
 use Rattle.lc_num.specs.Channels.{black}
 use Rattle.lc_num.specs.declared.channels.Rgb.{Rgb}
+use Rattle.lc_num.specs.declared.rules.Rule.{Rule}
 use Rattle.lc_geom.specs.Hits.{nearest}
 use Rattle.lc_geom.specs.declared.hit.Hit.{Hit}
 use Rattle.lc_terms.specs.declared.spot.Spot.{Spot}
@@ -26,13 +27,13 @@ spot_seen scene ray = option_and_then (spot_of scene ray) (nearest ray.e ray.d (
 abbrev pub no_answer : Answer
 no_answer = record { size = 0; evals = 0; est = black; bound = black }
 
-abbrev pub answer_at : ℕ → ℕ → SceneParts → Option Spot → Answer
-answer_at size permille scene None = no_answer
-answer_at size permille scene (Some spot) = answer size permille (trees_of (triangles_of scene) spot scene.forest)
+abbrev pub answer_at : ℕ → ℕ → Rule → SceneParts → Option Spot → Answer
+answer_at size permille r scene None = no_answer
+answer_at size permille r scene (Some spot) = answer size permille (trees_of (triangles_of scene) spot r scene.forest)
 
--- the answer for a greatest size and a permille at the spot that a ray finds, and zero where it hits nothing
-unfoldable pub sample_of : ℕ → ℕ → SceneParts → Ray → Answer
-sample_of size permille scene ray = answer_at size permille scene (spot_seen scene ray)
+-- the answer for a greatest size and a permille under a rule at the spot that a ray finds, and zero where it hits nothing
+unfoldable pub sample_of : ℕ → ℕ → Rule → SceneParts → Ray → Answer
+sample_of size permille r scene ray = answer_at size permille r scene (spot_seen scene ray)
 
 -- ---- the sum over all lights
 

@@ -56,7 +56,7 @@ pub fn sample<L: Ledger>(
     requires most { ask.size ≤ 65536 }
     requires permille { ask.permille ≤ 1000 }
     ensures valid { IsScene scene.now }
-    ensures value { result ≡ sample_of ask.size ask.permille scene.now ray }
+    ensures value { result ≡ sample_of ask.size ask.permille ask.rule scene.now ray }
     ensures near { IsNear (light_of scene.now ray) result }
     ensures fraction { (result.size ≡ ask.size) ⊎ IsFraction ask.permille result }
     ensures size { result.size ≤ ask.size }

@@ -7,7 +7,7 @@ use crate::sampling::spot_seen;
 use lc_cut::{Answer, Ask, Bench};
 use lc_light::read_lights;
 use lc_mtl::{Materials, read_mtl};
-use lc_num::{Colour, Rgb, Steps, Vec3};
+use lc_num::{Colour, Rgb, Rule, Steps, Vec3};
 use lc_obj::read_obj;
 use lc_terms::Spot;
 use lc_view::Ray;
@@ -160,6 +160,7 @@ fn a_light_over_a_spot(rt: HostRuntime) -> Result<(), Fail> {
     let ask = Ask {
         permille: 20,
         size: 3,
+        rule: Rule::One,
     };
     let lit = look(&scene, &mut bench, DOWN, ask);
     assert_eq!(rt; (lit.size, lit.evals), (1, 1));

@@ -5,6 +5,8 @@ use Rattle.lc_num.specs.Vectors.{Within}
 use Rattle.lc_num.specs.declared.vectors.Vec3.{Vec3}
 use Rattle.lc_num.specs.declared.channels.Rgb.{Rgb}
 use Rattle.lc_num.specs.declared.channels.Power.{Power}
+use Rattle.lc_num.specs.declared.rules.Rule.{Rule}
+use Rattle.lc_num.specs.declared.rules.Rule.TheVariants as rule
 use Rattle.lc_geom.specs.declared.triangle.Tri.{Tri}
 use Rattle.lc_geom.specs.Hits.{blocked}
 use Rattle.lc_terms.specs.Channels.{by_power, power_plus, IsAtMost}
@@ -13,13 +15,13 @@ use Rattle.lc_terms.specs.Spot.{IsSpot}
 use Rattle.lc_terms.specs.declared.spot.Spot.{Spot}
 
 -- what each call of a kind answers, which lights and clumps are valid, how many lights a clump stands for and which it
--- covers, and per channel the bound of the factors of the lights that it covers
+-- covers, and under each rule per channel the bound of the factors of the lights that it covers
 pub record Meaning (L C : Type 0) : Type 1 where
   pub valid_light : L → Type 0
   pub valid_clump : C → Type 0
   pub count : C → ℕ
   pub covers : C → L → Type 0
-  pub reach : Spot → C → Rgb
+  pub reach : Spot → C → Rule → Rgb
   pub place : L → Vec3
   pub power : L → Power
   pub toward : Vec3 → L → Vec3
@@ -28,7 +30,7 @@ pub record Meaning (L C : Type 0) : Type 1 where
   pub one : L → C
   pub join : C → C → C
   pub total : C → Power
-  pub top : Spot → C → Rgb
+  pub top : Spot → C → Rule → Rgb
 
 -- no triangle blocks the segment from a place to the light's target there
 abbrev pub is_seen : {L C : Type 0} → Meaning L C → List Tri → Vec3 → L → Bool
@@ -57,7 +59,9 @@ pub record Laws {L C : Type 0} (m : Meaning L C) : Type 0 where
   pub join_covers : (a b : C) (l : L) → m.valid_clump a → m.valid_clump b → m.valid_light l → m.covers a l ⊎ m.covers b l → m.covers (m.join a b) l
   pub count_within : (c : C) → m.valid_clump c → m.count c ≤ 65_536
   pub total_within : (c : C) → m.valid_clump c → IsPowerWithin (10 ^ 8 * m.count c) (m.total c)
-  pub reach_within : (s : Spot) (c : C) → IsSpot s → m.valid_clump c → IsRgbWithin (20_000 * 65_536 * 10 ^ 13) (m.reach s c)
-  pub top_is : (s : Spot) (c : C) → IsSpot s → m.valid_clump c → m.top s c ≡ by_power (m.reach s c) (m.total c)
-  -- among whatever triangles, no light that a clump covers has a greater factor than the clump's bound
-  pub dominates : (ts : List Tri) (s : Spot) (c : C) (l : L) → IsSpot s → m.valid_clump c → m.valid_light l → m.covers c l → IsAtMost (m.reach s c) (factor_of m ts s l)
+  pub reach_within : (s : Spot) (c : C) (r : Rule) → IsSpot s → m.valid_clump c → IsRgbWithin (20_000 * 65_536 * 10 ^ 13) (m.reach s c r)
+  pub top_is : (s : Spot) (c : C) (r : Rule) → IsSpot s → m.valid_clump c → m.top s c r ≡ by_power (m.reach s c r) (m.total c)
+  -- among whatever triangles and under each rule, no light that a clump covers has a greater factor than the clump's bound
+  pub dominates : (ts : List Tri) (s : Spot) (c : C) (r : Rule) (l : L) → IsSpot s → m.valid_clump c → m.valid_light l → m.covers c l → IsAtMost (m.reach s c r) (factor_of m ts s l)
+  -- the bound under the second rule is nowhere above that under the first
+  pub sharper : (s : Spot) (c : C) → IsSpot s → m.valid_clump c → IsAtMost (m.reach s c rule.One) (m.reach s c rule.Two)

@@ -9,7 +9,7 @@ use Rattle.lc_num.specs.declared.channels.Power.{Power}
 use Rattle.lc_terms.specs.Channels.{power_plus, times, IsAtMost}
 use Rattle.lc_terms.specs.Factor.{material}
 use Rattle.lc_terms.specs.Kind.{Meaning, Laws}
-use Rattle.lc_terms.specs.SeenLaws.{factor-below}
+use Rattle.lc_terms.specs.SeenLaws.{black-below, factor-below}
 
 abbrev pub Lamp : Type 0
 Lamp = Vec3 × Power
@@ -31,7 +31,7 @@ lamp_meaning = record {
   valid_clump = IsPile;
   count = λ c. c.1;
   covers = λ c l. Unit {0};
-  reach = λ s c. black;
+  reach = λ s c r. black;
   place = λ l. l.0;
   power = λ l. l.1;
   toward = λ x l. zero_vector;
@@ -40,7 +40,7 @@ lamp_meaning = record {
   one = λ l. (l.1, 1);
   join = λ a b. (power_plus a.0 b.0, a.1 + b.1);
   total = λ c. c.0;
-  top = λ s c. black;
+  top = λ s c r. black;
 }
 
 zero_within : (m : ℕ) → Within m zero_vector
@@ -78,7 +78,8 @@ lamp_laws = record {
   join_covers = λ a b l ha hb hl h. tt;
   count_within = λ c h. h.count;
   total_within = λ c h. h.total;
-  reach_within = λ s c hs hc. record { r = omega arith; g = omega arith; b = omega arith };
-  top_is = λ s c hs hc. same_black (0 * c.0.r) (0 * c.0.g) (0 * c.0.b) (omega arith) (omega arith) (omega arith);
-  dominates = λ ts s c l hs hc hl h. factor-below lamp_meaning ts s l black (no_more (material s zero_vector));
+  reach_within = λ s c r hs hc. record { r = omega arith; g = omega arith; b = omega arith };
+  top_is = λ s c r hs hc. same_black (0 * c.0.r) (0 * c.0.g) (0 * c.0.b) (omega arith) (omega arith) (omega arith);
+  dominates = λ ts s c r l hs hc hl h. factor-below lamp_meaning ts s l black (no_more (material s zero_vector));
+  sharper = λ s c hs hc. black-below black;
 }

@@ -5,7 +5,7 @@ ghost use Rattle.lc_terms.specs.Kind.{Laws, Meaning};
 ghost use Rattle.lc_terms.specs.Spot.{IsSpot};
 
 use crate::spot::Spot;
-use lc_num::{Power, Rgb, Vec3};
+use lc_num::{Power, Rgb, Rule, Vec3};
 
 /// A kind of light, with the clumps that stand for many lights of it. The places of spots are at most 50,100,000 in
 /// each component.
@@ -63,11 +63,11 @@ pub trait Kind {
         ensures { result ≡ meaning.total clump.now };
 
     /// The most that the lights of a clump can give to a spot, whichever of them stands for the others: a bound
-    /// of their factors times the summed intensity.
-    fn top(spot: &Spot, clump: &Self::Clump) -> Rgb
+    /// of their factors under a rule, times the summed intensity.
+    fn top(spot: &Spot, clump: &Self::Clump, rule: Rule) -> Rgb
         requires spot { IsSpot spot.now }
         requires clump { meaning.valid_clump clump.now }
-        ensures { result ≡ meaning.top spot.now clump.now };
+        ensures { result ≡ meaning.top spot.now clump.now rule };
 
     /// What every kind keeps.
     ghost laws: { Laws meaning };

@@ -5,7 +5,7 @@ ghost use Rattle.lc_terms.specs.Spot.{IsSpot};
 
 use super::*;
 use lc_geom::{Hit, Triangles};
-use lc_num::{Colour, Power, Rgb, Steps, Vec3};
+use lc_num::{Colour, Power, Rgb, Rule, Steps, Vec3};
 use std::marker::Brand;
 use std::sync::ledger::{Blank, Ledger};
 use std::test::*;
@@ -59,7 +59,7 @@ impl Kind for Dark {
         clump.0
     }
 
-    fn top(_spot: &Spot, _clump: &(Power, u32)) -> Rgb {
+    fn top(_spot: &Spot, _clump: &(Power, u32), _rule: Rule) -> Rgb {
         Rgb { r: 0, g: 0, b: 0 }
     }
 }

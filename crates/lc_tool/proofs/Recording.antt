@@ -19,7 +19,7 @@ use Rattle.lc_tool.specs.declared.status.Status.{Status}
 use Rattle.lc_tool.specs.Course.{Course, at_once, told}
 use Rattle.lc_tool.specs.Words.{Command, probe, render, plain, make}
 use Rattle.lc_tool.specs.Work.{Work}
-use Rattle.lc_tool.specs.Outcome.{probe_scene, lights_of, probe_size, probe_permille, probe_spot, probe_answer, probe_work, probe_course, course_of}
+use Rattle.lc_tool.specs.Outcome.{probe_scene, lights_of, probe_size, probe_permille, probe_rule, probe_spot, probe_answer, probe_work, probe_course, course_of}
 use Rattle.lc_tool.specs.Probed.{ProbeRecorded, Recorded}
 use Rattle.lc_tool.specs.Status.{code}
 use Rattle.lc_tool.specs.Stopped.{Gave}
@@ -56,10 +56,10 @@ probe_recorded name place direction files before now steps_before steps_now work
       answer = probe_answer place direction (lights given.text 0);
       recorded = slots ∙ ap (λ (w : Work). after_calls w.calls before.slots) is;
       cut = refl;
-      near = answer_near probe_scene spot (spot_valid place direction at) forest (forest_of_is 0 (lights given.text 0) valid) probe_size probe_permille;
-      fraction = fraction probe_size probe_permille (trees_of probe_scene spot forest) (omega arith);
-      size = size_most probe_size probe_permille (trees_of probe_scene spot forest) (omega arith);
-      evals = evals_most probe_size probe_permille (trees_of probe_scene spot forest) (omega arith);
+      near = answer_near probe_scene spot (spot_valid place direction at) probe_rule forest (forest_of_is 0 (lights given.text 0) valid) probe_size probe_permille;
+      fraction = fraction probe_size probe_permille (trees_of probe_scene spot probe_rule forest) (omega arith);
+      size = size_most probe_size probe_permille (trees_of probe_scene spot probe_rule forest) (omega arith);
+      evals = evals_most probe_size probe_permille (trees_of probe_scene spot probe_rule forest) (omega arith);
       each = refl;
       counted = counted ∙ ap (λ (w : Work). steps_before + w.evals) is;
     }

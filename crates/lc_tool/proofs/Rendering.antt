@@ -8,12 +8,12 @@ use Rattle.lc_desk.specs.declared.desk.Slot.TheVariants.{Picture, Bounds, Report
 use Rattle.lc_desk.specs.declared.desk.PutStop.TheVariants as put_stop
 use Rattle.lc_rated.specs.Cuts.{IsFraction, IsNear}
 use Rattle.lc_rated.specs.declared.answer.Answer.{Answer}
-use Rattle.lc_view.specs.Samples.{picture_rays}
+use Rattle.lc_view.specs.Samples.{flat, picture_rays}
 use Rattle.lc_view.specs.declared.ray.Ray.{Ray}
 use Rattle.lc_job.specs.declared.job.Job.{Job}
 use Rattle.lc_sample.specs.Sampled.{light_of, sample_of}
 use Rattle.lc_frame.specs.Files.{LeftPart, files as frame_files}
-use Rattle.lc_frame.specs.Frames.{answers_of, evals_of, flat, picture_text, record_text, render_calls}
+use Rattle.lc_frame.specs.Frames.{answers_of, evals_of, picture_text, record_text, render_calls}
 use Rattle.lc_frame.specs.Stops.{StoppedIn}
 use Rattle.lc_frame.specs.declared.stop.FrameStop.{FrameStop}
 use Rattle.lc_frame.specs.declared.stop.FrameStop.TheVariants as frame
@@ -45,7 +45,7 @@ abbrev rays_of : World → List Ray
 rays_of world = flat (flat (picture_rays world.job.camera))
 
 abbrev sample_in : World → Ray → Answer
-sample_in world ray = sample_of world.job.cut world.job.permille world.scene ray
+sample_in world ray = sample_of world.job.cut world.job.permille world.job.rule world.scene ray
 
 recorded_are : (world : World) → recorded world ≡ map (sample_in world) (rays_of world)
 unfolding answers_of
@@ -102,16 +102,16 @@ pub render_is : (words : List (List ℕ)) (held : Option Files) (world : World) 
 render_is words held world r = world_is r.name r.files world r.tells
 
 pub world_near : (world : World) → IsWorld world → AreNear world
-world_near world valid = each_of (λ ray. IsNear (light_of world.scene ray) (sample_in world ray)) (λ ray. sample_near world.job.cut world.job.permille world.scene ray valid.scene) (rays_of world)
+world_near world valid = each_of (λ ray. IsNear (light_of world.scene ray) (sample_in world ray)) (λ ray. sample_near world.job.cut world.job.permille world.job.rule world.scene ray valid.scene) (rays_of world)
 
 pub world_fractions : (world : World) → IsWorld world → AreFractions world
 world_fractions world valid =
-    each_recorded (λ a. (a.size ≡ world.job.cut) ⊎ IsFraction world.job.permille a) world (λ ray. sample_fraction world.job.cut world.job.permille world.scene ray valid.job.cut_some)
+    each_recorded (λ a. (a.size ≡ world.job.cut) ⊎ IsFraction world.job.permille a) world (λ ray. sample_fraction world.job.cut world.job.permille world.job.rule world.scene ray valid.job.cut_some)
 
 pub world_counted : (world : World) (steps_before steps_now : ℕ) → IsWorld world → steps_now ≡ steps_before + evals_of (recorded world) → AreCounted world steps_before steps_now
 world_counted world steps_before steps_now valid all = record {
-  each = each_recorded (λ a. a.evals ≤ 2 * world.job.cut) world (λ ray. sample_evals world.job.cut world.job.permille world.scene ray valid.job.cut_some);
-  one = each_recorded (λ a. a.evals ≡ a.size) world (λ ray. sample_each world.job.cut world.job.permille world.scene ray);
+  each = each_recorded (λ a. a.evals ≤ 2 * world.job.cut) world (λ ray. sample_evals world.job.cut world.job.permille world.job.rule world.scene ray valid.job.cut_some);
+  one = each_recorded (λ a. a.evals ≡ a.size) world (λ ray. sample_each world.job.cut world.job.permille world.job.rule world.scene ray);
   all = all;
 }
 

@@ -4,6 +4,8 @@ use Rattle.std.specs.List.{list_any}
 use Rattle.lc_num.specs.Vectors.{zero_vector}
 use Rattle.lc_num.specs.Cosines.{scaled}
 use Rattle.lc_num.specs.Faults.{Fault}
+use Rattle.lc_num.specs.declared.rules.Rule.{Rule}
+use Rattle.lc_num.specs.declared.rules.Rule.TheVariants as rule
 use Rattle.lc_num.specs.declared.vectors.Vec3.{Vec3}
 use Rattle.lc_desk.specs.Calls.{put}
 use Rattle.lc_desk.specs.Desk.{Files}
@@ -139,6 +141,10 @@ probe_size = 1000
 abbrev pub probe_permille : ℕ
 probe_permille = 20
 
+-- the rule of a probe's bounds
+abbrev pub probe_rule : Rule
+probe_rule = rule.One
+
 -- the triangles of a probe's scene: none
 abbrev pub probe_scene : List Tri
 probe_scene = []
@@ -146,7 +152,7 @@ probe_scene = []
 -- the answer of the chosen cut through the trees of a file's lights, under the seed 0
 unfoldable pub probe_answer : Vec3 → Vec3 → Lights → Answer
 probe_answer place direction lights =
-    answer probe_size probe_permille (trees_of probe_scene (probe_spot place direction) (forest_of 0 lights))
+    answer probe_size probe_permille (trees_of probe_scene (probe_spot place direction) probe_rule (forest_of 0 lights))
 
 -- the line of the answer on Report
 abbrev pub probe_work : Answer → Work

@@ -3,10 +3,10 @@ use Rattle.std.specs.Prelude.{◌≡◌, ◌+◌, ◌*◌, ◌≤◌, ◌⊎◌,
 use Rattle.lc_desk.specs.Desk.{DeskState, Files, TookPart, appended, opened}
 use Rattle.lc_rated.specs.declared.answer.Answer.{Answer}
 use Rattle.lc_rated.specs.Cuts.{IsNear, IsFraction}
-use Rattle.lc_view.specs.Samples.{picture_rays}
+use Rattle.lc_view.specs.Samples.{flat, picture_rays}
 use Rattle.lc_sample.specs.Sampled.{light_of, sample_of}
 use Rattle.lc_frame.specs.Files.{LeftPart}
-use Rattle.lc_frame.specs.Frames.{answers_of, evals_of, flat, picture_text, record_text, samples}
+use Rattle.lc_frame.specs.Frames.{answers_of, evals_of, picture_text, record_text, samples}
 use Rattle.lc_frame.specs.PlainFrames.{plain_lights, plain_picture}
 use Rattle.lc_tool.specs.declared.world.World.{World}
 use Rattle.lc_make.specs.Made.{made_of}
@@ -60,7 +60,7 @@ recorded world = samples (answers_of world.job world.scene)
 -- at each sample the recorded estimate differs from the sum over all lights, each with its own visibility against every
 -- triangle, by at most the recorded bound
 abbrev pub AreNear : World → Type 0
-AreNear world = All (λ ray. IsNear (light_of world.scene ray) (sample_of world.job.cut world.job.permille world.scene ray)) (flat (flat (picture_rays world.job.camera)))
+AreNear world = All (λ ray. IsNear (light_of world.scene ray) (sample_of world.job.cut world.job.permille world.job.rule world.scene ray)) (flat (flat (picture_rays world.job.camera)))
 
 -- at each sample the recorded bound is within the permille of the estimate, unless the cut has the greatest size
 abbrev pub AreFractions : World → Type 0

@@ -17,7 +17,7 @@ use lc_cut::{Answer, Ask, Bench, Forest, cut};
 use lc_desk::Desk;
 use lc_hier::Plain;
 use lc_light::Lights;
-use lc_num::{Colour, List, Memory, Steps, Vec3, scaled};
+use lc_num::{Colour, List, Memory, Rule, Steps, Vec3, scaled};
 use lc_record::{Line, line_text};
 use lc_terms::Spot;
 use std::alloc::Global;
@@ -51,6 +51,7 @@ fn spot_at(place: Vec3, direction: Vec3) -> Spot
 const ASK: Ask = Ask {
     permille: 20,
     size: 1000,
+    rule: Rule::One,
 };
 
 /// The light of a file's lights at a spot, with no triangle between them.

@@ -98,6 +98,30 @@ fn renders_the_bound_of_a_coarse_cut(rt: HostRuntime) -> Result<(), Fail> {
     Ok(())
 }
 
+const FIRST_RULE: &[u8] =
+    b"LCB 1 1 1 1 1000 1000\n2 2 3355443200000000000000 3355443200000000000000 3355443200000000000000 0 0 0\n";
+
+const SECOND_RULE: &[u8] =
+    b"LCB 2 1 1 1 1000 1000\n1 1 3355443200000000000000 3355443200000000000000 3355443200000000000000 3355443200000000000000 3355443200000000000000 3355443200000000000000\n";
+
+// A light that gives nothing stands before one that gives all: what both can give is more than the estimate of the root, but
+// the estimate is more than what it leaves of that, so the second rule takes the root as it is.
+#[test]
+fn bounds_by_the_rule_of_the_job(rt: HostRuntime) -> Result<(), Fail> {
+    let lights = "point 0 0 1.0016 0 0 0\npoint 0 0 1.2516 1 1 1\n";
+    let rows = [
+        ("", FIRST_RULE),
+        ("rule 1\n", FIRST_RULE),
+        ("rule 2\n", SECOND_RULE),
+    ];
+    for (line, record) in rows {
+        let view = format!(in rt.alloc(); "{VIEW}error 1000\n{line}")?;
+        let mut desk = desk_with(rt.alloc(), NAMES, &view, SCENE, lights)?;
+        expect_files(&rt, &mut desk, b"P6\n1 1\n255\n\xB6\xB6\xB6", record);
+    }
+    Ok(())
+}
+
 /// Three numbers above 0.
 fn expect_bounds(rt: &impl Abort, bounds: &[u8]) {
     assert_eq!(rt; bounds.split(|b| *b == b' ').count(), 3);
@@ -169,6 +193,7 @@ fn refuses_lines_of_jobs(rt: HostRuntime) -> Result<(), Fail> {
         ("eye 0 0 5", "line 8: kind 2"),
         ("cut x", "line 8: kind 3"),
         ("cut 2", "line 8: kind 4"),
+        ("rule 3", "line 8: kind 4"),
         ("up 0 0 1", "line 0: kind 6"),
     ];
     for (line, fault) in rows {

@@ -5,7 +5,7 @@ use lc_cut::{Answer, Ask, Bench, Forest, cut};
 use lc_geom::Tri;
 use lc_hier::Plain;
 use lc_light::read_lights;
-use lc_num::{Colour, List, Rgb, Steps, Vec3};
+use lc_num::{Colour, List, Rgb, Rule, Steps, Vec3};
 use lc_terms::Spot;
 use std::alloc::Global;
 use std::marker::Brand;
@@ -15,6 +15,7 @@ use std::test::Fail;
 const ASK: Ask = Ask {
     permille: 20,
     size: 4,
+    rule: Rule::One,
 };
 
 fn at(x: i64, y: i64, z: i64) -> Vec3

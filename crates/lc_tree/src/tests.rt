@@ -4,7 +4,7 @@ ghost use Rattle.lc_num.specs.Vectors.{Within};
 ghost use Rattle.lc_terms.specs.Lamps.{lamp_laws, lamp_meaning, IsLamp};
 
 use super::*;
-use lc_num::{Memory, Power, Rgb, Vec3};
+use lc_num::{Memory, Power, Rgb, Rule, Vec3};
 use lc_terms::{Kind, Spot};
 use std::test::*;
 
@@ -57,7 +57,7 @@ impl Kind for Dark {
         clump.0
     }
 
-    fn top(_spot: &Spot, _clump: &(Power, u32)) -> Rgb {
+    fn top(_spot: &Spot, _clump: &(Power, u32), _rule: Rule) -> Rgb {
         Rgb { r: 0, g: 0, b: 0 }
     }
 }

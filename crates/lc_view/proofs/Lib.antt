@@ -1,1 +1,2 @@
 pub mod RayLemmas
+pub mod SampleLemmas

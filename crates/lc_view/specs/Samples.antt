@@ -1,5 +1,5 @@
 -- The rays through all samples of a picture, in the order of its rows, pixels and samples.
-use Rattle.std.specs.Prelude.{ℕ, ◌*◌, ◌/◌, ◌%◌, List, map}
+use Rattle.std.specs.Prelude.{ℕ, ◌*◌, ◌/◌, ◌%◌, List, map, flat_map}
 use Rattle.std.specs.List.{range_with_len}
 use Rattle.lc_view.specs.Camera.{ray_of}
 use Rattle.lc_view.specs.declared.camera.Camera.{Camera}
@@ -20,3 +20,16 @@ row_rays camera row = map (pixel_rays camera row) (range_with_len 0 camera.width
 -- the rows of a picture from the top
 unfoldable pub picture_rays : Camera → List (List (List Ray))
 picture_rays camera = map (row_rays camera) (range_with_len 0 camera.height)
+
+-- lists, one after another
+abbrev pub flat : {A : Type 0} → List (List A) → List A
+flat lists = flat_map (λ list. list) lists
+
+-- the rays of all samples: the rows of the picture from the top, of each its pixels from the left, of each the rows of its
+-- grid from the top, of each its columns from the left
+unfoldable pub sample_rays : Camera → List Ray
+sample_rays camera = flat (flat (picture_rays camera))
+
+-- how many samples a picture has
+abbrev pub sample_count : Camera → ℕ
+sample_count camera = camera.width * camera.height * (camera.grid * camera.grid)

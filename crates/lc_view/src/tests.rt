@@ -188,3 +188,32 @@ fn the_widest_camera(rt: HostRuntime) {
     };
     assert_eq!(rt; ray_of(&camera, 4_095, 0, 15, 0).d, d);
 }
+
+#[test]
+fn samples_by_their_numbers(rt: HostRuntime) {
+    let camera = Camera {
+        eye: ABOVE,
+        at: MIDDLE,
+        up: NORTH,
+        view: 5_000,
+        width: 3,
+        height: 2,
+        grid: 2,
+    };
+    // A pixel has 4 samples and a row 12.
+    for (sample, col, row, a, b) in [
+        (0, 0, 0, 0, 0),
+        (1, 0, 0, 1, 0),
+        (2, 0, 0, 0, 1),
+        (4, 1, 0, 0, 0),
+        (12, 0, 1, 0, 0),
+        (23, 2, 1, 1, 1),
+    ] {
+        assert!(rt; sample < 24 && col < 3 && row < 2 && a < 2 && b < 2);
+        assert_eq!(rt;
+            ray_of_sample(&camera, sample),
+            ray_of(&camera, col, row, a, b),
+            "sample {sample}"
+        );
+    }
+}

@@ -135,9 +135,12 @@ fn one_light_is_bounded_by_its_own_factor(rt: HostRuntime) {
         g: 16_776_703_627_080_000,
         b: 0,
     };
-    assert_eq!(rt; OrientedKind::top(&ground(), &of_one(&lamp())), top);
+    assert_eq!(rt;
+        OrientedKind::top(&ground(), &of_one(&lamp()), Rule::One),
+        top
+    );
     let dark = of_one(&lamp_that_shines_up());
-    assert_eq!(rt; OrientedKind::top(&ground(), &dark), BLACK);
+    assert_eq!(rt; OrientedKind::top(&ground(), &dark, Rule::One), BLACK);
 }
 
 #[test]
@@ -155,5 +158,5 @@ fn two_lights_are_bounded_at_the_nearer_place(rt: HostRuntime) {
         g: 184_543_739_897_880_000,
         b: 0,
     };
-    assert_eq!(rt; OrientedKind::top(&ground(), &clump), top);
+    assert_eq!(rt; OrientedKind::top(&ground(), &clump, Rule::One), top);
 }

@@ -96,10 +96,10 @@ fn one_sun_is_bounded_by_its_own_cosine(rt: HostRuntime) {
         g: 655_360_000_000_000_000,
         b: 0,
     };
-    assert_eq!(rt; SunKind::top(&ground(), &clump), top);
+    assert_eq!(rt; SunKind::top(&ground(), &clump, Rule::One), top);
     let clump = of_one(&level());
     let black = Rgb { r: 0, g: 0, b: 0 };
-    assert_eq!(rt; SunKind::top(&ground(), &clump), black);
+    assert_eq!(rt; SunKind::top(&ground(), &clump, Rule::One), black);
 }
 
 #[test]
@@ -116,7 +116,7 @@ fn two_suns_may_all_shine_from_above(rt: HostRuntime) {
         g: 7_208_960_000_000_000_000,
         b: 0,
     };
-    assert_eq!(rt; SunKind::top(&ground(), &clump), top);
+    assert_eq!(rt; SunKind::top(&ground(), &clump, Rule::One), top);
 }
 
 #[test]
@@ -141,5 +141,5 @@ fn a_highlight_counts_by_its_own_colour(rt: HostRuntime) {
         g: 655_360_000_000_000_000,
         b: 629_115_000_000_000_000,
     };
-    assert_eq!(rt; SunKind::top(&spot, &of_one(&overhead())), top);
+    assert_eq!(rt; SunKind::top(&spot, &of_one(&overhead()), Rule::One), top);
 }

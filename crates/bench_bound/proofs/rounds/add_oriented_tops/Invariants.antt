@@ -3,4 +3,4 @@ use Rattle.bench_bound.specs.Sums.{oriented_sum}
 use Rattle.bench_bound.proofs.rounds.add_oriented_tops.Given as goal
 
 abbrev pub invariant-loop-case : goal.invariant-loop-case
-invariant-loop-case l = l.total ≡ (l.sum + sum_by oriented_sum (take l.case-index l.cases)) % 2 ^ 128
+invariant-loop-case l = l.total ≡ (l.sum + sum_by (oriented_sum l.rule) (take l.case-index l.cases)) % 2 ^ 128

@@ -7,9 +7,9 @@ use Rattle.lc_cut.proofs.laws.sums_fit.Goals as goal
 
 pub returns : goal.returns
 returns c = record {
-  est = λ ts spot forest k hs h. est_within (trees_of ts spot forest) k (trees_limited ts spot hs forest h);
-  bound = λ ts spot forest k hs h. bound_within (trees_of ts spot forest) k (trees_limited ts spot hs forest h);
+  est = λ ts spot r forest k hs h. est_within (trees_of ts spot r forest) k (trees_limited ts spot hs r forest h);
+  bound = λ ts spot r forest k hs h. bound_within (trees_of ts spot r forest) k (trees_limited ts spot hs r forest h);
   lights = plain_within;
-  key = λ ts spot forest k hs h. key_small (trees_of ts spot forest) k (trees_limited ts spot hs forest h);
+  key = λ ts spot r forest k hs h. key_small (trees_of ts spot r forest) k (trees_limited ts spot hs r forest h);
   thousandfold = λ n h. omega arith;
 }

@@ -21,7 +21,7 @@ plus-sums-requires-clause-a g c =
 pub loop-k-preserved : goal.loop-k-preserved
 unfolding sample_at
 loop-k-preserved g c =
-    let is : c.sample-answer.result ≡ sample_at c.args.job.now c.args.scene.now c.args.row c.args.col c.loop-k.k = c.sample-answer.ensures.value ∙ ap (sample_of c.args.job.now.cut c.args.job.now.permille c.args.scene.now) c.ray_of-ray.ensures.value in
+    let is : c.sample-answer.result ≡ sample_at c.args.job.now c.args.scene.now c.args.row c.args.col c.loop-k.k = c.sample-answer.ensures.value ∙ ap (sample_of c.args.job.now.cut c.args.job.now.permille c.args.job.now.rule c.args.scene.now) c.ray_of-ray.ensures.value in
     let piece = c.as_slice.ensures ∙ c.line_text.ensures.line ∙ ap line_bytes is in
     record {
       made = pixel_more c.args.job.now c.args.scene.now c.args.row c.args.col c.loop-k.k _ piece _ _ _ c.loop-k.invariant.made c.in_ok-put.ensures.made;
@@ -53,7 +53,7 @@ returns-clause-steps g c = c.loop-k.invariant.steps ∙ ap (λ l. c.args.steps.n
 pub returns-in_err-put-clause-broke : goal.returns-in_err-put-clause-broke
 unfolding sample_at
 returns-in_err-put-clause-broke g c =
-    let is : c.sample-answer.result ≡ sample_at c.args.job.now c.args.scene.now c.args.row c.args.col c.loop-k.k = c.sample-answer.ensures.value ∙ ap (sample_of c.args.job.now.cut c.args.job.now.permille c.args.scene.now) c.ray_of-ray.ensures.value in
+    let is : c.sample-answer.result ≡ sample_at c.args.job.now c.args.scene.now c.args.row c.args.col c.loop-k.k = c.sample-answer.ensures.value ∙ ap (sample_of c.args.job.now.cut c.args.job.now.permille c.args.job.now.rule c.args.scene.now) c.ray_of-ray.ensures.value in
     let piece = c.as_slice.ensures ∙ c.line_text.ensures.line ∙ ap line_bytes is in
     let p = err_from_is_err_and c.from_residual.result c.from_residual.ensures.1 in
     rw (p.1, p.2) (pixel_broke c.args.job.now c.args.scene.now c.args.row c.args.col c.loop-k.k _ piece _ _ _ _ c.loop-k-test.true c.loop-k.invariant.made c.in_err-put.ensures.broke)

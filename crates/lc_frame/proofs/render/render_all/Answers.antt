@@ -3,7 +3,8 @@ use Rattle.std.proofs.lemmas.Result.{err_from_is_err_and}
 use Rattle.lc_desk.specs.Calls.{Made}
 use Rattle.lc_desk.specs.declared.desk.Slot.TheVariants.{Picture, Bounds}
 use Rattle.lc_desk.proofs.CallLemmas.{open_made}
-use Rattle.lc_frame.specs.Frames.{answers_of, evals_of, flat, row_calls, samples}
+use Rattle.lc_view.specs.Samples.{flat}
+use Rattle.lc_frame.specs.Frames.{answers_of, evals_of, row_calls, samples}
 use Rattle.lc_frame.specs.Parts.{row_answers, with_more}
 use Rattle.lc_frame.proofs.RowLemmas.{calls_more, evals_then, picture_broke, samples-flat, summary_then, whole_picture}
 use Rattle.lc_frame.proofs.StartLemmas.{fresh}

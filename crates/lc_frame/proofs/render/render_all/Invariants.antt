@@ -1,6 +1,7 @@
 use Rattle.std.proofs.Common.{◌≡◌, ◌+◌, ◌*◌, ◌^◌, ◌≤◌, flat_map, vec_capacity}
 use Rattle.lc_desk.specs.Calls.{Made}
-use Rattle.lc_frame.specs.Frames.{evals_of, flat, row_calls}
+use Rattle.lc_view.specs.Samples.{flat}
+use Rattle.lc_frame.specs.Frames.{evals_of, row_calls}
 use Rattle.lc_frame.specs.Parts.{row_answers, with_more}
 use Rattle.lc_frame.proofs.LoopLemmas.{items}
 use Rattle.lc_frame.proofs.render.render_all.Given as goal

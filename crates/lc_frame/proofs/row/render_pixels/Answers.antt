@@ -4,7 +4,8 @@ use Rattle.lc_desk.specs.Calls.{Made}
 use Rattle.lc_desk.specs.declared.desk.Slot.TheVariants.{Bounds}
 use Rattle.lc_desk.proofs.CallLemmas.{open_made}
 use Rattle.lc_tone.specs.Picture.{pixel_bytes}
-use Rattle.lc_frame.specs.Frames.{estimates, evals_of, flat, lines_of, row_bytes}
+use Rattle.lc_view.specs.Samples.{flat}
+use Rattle.lc_frame.specs.Frames.{estimates, evals_of, lines_of, row_bytes}
 use Rattle.lc_frame.specs.Parts.{pixel_answers, with_more}
 use Rattle.lc_frame.proofs.RowLemmas.{calls_more, evals_then, flat-more, row_broke, summary_then, whole_row}
 use Rattle.lc_frame.proofs.row.render_pixels.Goals as goal

@@ -1,6 +1,7 @@
 use Rattle.std.proofs.Common.{◌≡◌, ◌+◌, ◌*◌, ◌≤◌, flat_map, vec_len, vec_capacity}
 use Rattle.lc_desk.specs.Calls.{Made}
-use Rattle.lc_frame.specs.Frames.{evals_of, flat, lines_of, row_bytes}
+use Rattle.lc_view.specs.Samples.{flat}
+use Rattle.lc_frame.specs.Frames.{evals_of, lines_of, row_bytes}
 use Rattle.lc_frame.specs.Parts.{pixel_answers, with_more}
 use Rattle.lc_frame.proofs.LoopLemmas.{items}
 use Rattle.lc_frame.proofs.row.render_pixels.Given as goal

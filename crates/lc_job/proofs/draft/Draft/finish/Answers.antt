@@ -65,5 +65,6 @@ returns c =
         permille = c.unwrap_or-5.ensures;
         cut = c.unwrap_or-6.ensures;
         white = c.unwrap_or-7.ensures;
+        rule = c.unwrap_or-8.ensures;
       }),
     )

@@ -1,0 +1,4 @@
+pub mod Strides
+pub mod Finding
+pub mod SampleLemmas
+pub mod Promises

@@ -1,0 +1,9 @@
+pub mod Verdicts
+pub use Rattle.lc_num.specs.Channels
+pub use Rattle.lc_rated.specs.Cuts
+pub use Rattle.lc_view.specs.Camera
+pub use Rattle.lc_view.specs.Samples
+pub use Rattle.lc_job.specs.Jobs
+pub use Rattle.lc_sample.specs.Scenes
+pub use Rattle.lc_sample.specs.Sampled
+pub use Rattle.lc_record.specs.Record

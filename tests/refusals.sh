@@ -1,10 +1,13 @@
 #!/usr/bin/env bash
-# Makes each allocation of a probe, a render, a plain picture and a made scene fail in turn, one a run, by a library that stands
-# before the C library's. Each run has to give what it gives with ample memory, or status 1, `out of memory` or nothing on
-# standard error, nothing on standard output and no file but first parts of the right ones. It ends with 1 where a run did
-# something else. It takes a C compiler. Give the program's path, or run `rt run` in crates/lightcuts first.
+# Makes each allocation of a probe, a render, a plain picture, a made scene and a reading of a record fail in turn, one a run, by
+# a library that stands before the C library's. Each run has to give what it gives with ample memory, or status 1, `out of
+# memory` or nothing on standard error, nothing on standard output and no file but first parts of the right ones. A reading, by
+# the program `bench_record`, tells the record, or that there was no memory. It ends with 1 where a run did something else. It
+# takes a C compiler. Give the two programs' paths, or run `rt run` in crates/lightcuts and crates/bench_record first.
 set -u
-program=$(realpath "${1:-$(dirname "$0")/../crates/lightcuts/out/lightcuts}") || exit 2
+crates=$(realpath "$(dirname "$0")/../crates") || exit 2
+program=$(realpath "${1:-$crates/lightcuts/out/lightcuts}") || exit 2
+reader=$(realpath "${2:-$crates/bench_record/out/bench_record}") || exit 2
 work=$(mktemp -d)
 trap 'rm -rf "$work"' EXIT
 cd "$work" || exit 2
@@ -76,9 +79,32 @@ refuse() {
     echo "$*: $count allocations refused in turn, $told times status 1"
 }
 
+# refuse_reading FILE: the reading of a record
+refuse_reading() {
+    local whole count n status told=0 out
+    whole=$(COUNTED=$work/count LD_PRELOAD=$work/refuse.so "$reader" "$1")
+    case $whole in rule*) ;; *) echo "reading: $whole"; failed=$((failed + 1)); return ;; esac
+    count=$(cat count)
+    for n in $(seq "$count"); do
+        out=$(REFUSED=$n LD_PRELOAD=$work/refuse.so "$reader" "$1" 2>err)
+        status=$?
+        if [ $status -eq 0 ] && [ "$out" = "$whole" ]; then
+            passed=$((passed + 1))
+        elif [ "$status:$out" = '0:out of memory' ] || [ "$status:$out" = "0:$1: not read" ] || [ "$status:$out" = '1:' ]; then
+            passed=$((passed + 1)) told=$((told + 1))
+        else
+            failed=$((failed + 1))
+            echo "reading, allocation $n: status $status, output '$out', note '$(cat err)'"
+        fi
+    done
+    echo "reading $1: $count allocations refused in turn, $told times no memory"
+}
+
 refuse none none probe lights.txt 0 0 0 0 0 1
 refuse p.ppm b.lcb render j.txt
 refuse p.ppm none plain j.txt
 refuse made.ppm made.lcb make 0
+cp whole/made.lcb .
+refuse_reading made.lcb
 echo "$passed passed, $failed failed"
 [ $failed -eq 0 ]

@@ -24,7 +24,7 @@ PROGRAM = HERE.parent / "crates" / "lightcuts" / "out" / "lightcuts"
 
 TEXTS = {
     "j.txt": b"# a job\nscene s.obj\nlights l.txt\npicture p.ppm\nbounds b.lcb\neye 0.5 -0.25 5\nat 0 0 0\nup 0 1 0\n"
-    b"view 0.8\nsize 3 2\ngrid 1\nseed 7\nerror 20\ncut 5\nwhite 0.5\n",
+    b"view 0.8\nsize 3 2\ngrid 1\nseed 7\nerror 20\ncut 5\nwhite 0.5\nrule 2\n",
     "s.obj": b"# two triangles and a quadrilateral\nmtllib m.mtl\no a\nv -1 -1 0\nv 1 -1 0\nv 0 1 0\nv 0 0 -1.5e0\nvn 0 0 1\nvn 0 1 0\n"
     b"vt 0 0\nvt 1 0.5\nusemtl dull\nf 1//1 2//1 3//1\nf 1/1 2/2 4/1\ns 1\nusemtl shiny metal\nf -4 -3 -2 \\\n -1\nf 1/1/2 2/2/2 4/1/1\n",
     "m.mtl": b"newmtl dull\nKd 0.5 0.25 1\nKa 1 1 1\nillum 2\nnewmtl shiny metal\nKd 0.2\nKs 0.5 0.5 0.75\nNs 20.5\nd 1.0\n",

@@ -4,3 +4,4 @@ pub use Rattle.lc_num.specs.Rules
 pub mod Record
 pub mod Reading
 pub mod Pieces
+pub mod Readings

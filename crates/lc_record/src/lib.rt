@@ -3,12 +3,14 @@
 
 mod head;
 mod kind;
+mod laws;
 mod line;
 mod number;
 mod reader;
 mod stop;
 
 pub use head::{Header, header_text};
+pub use laws::readings;
 pub use line::{Line, line_text};
 pub use reader::{Record, read_record};
 pub use stop::RecordStop;

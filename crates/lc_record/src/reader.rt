@@ -1,5 +1,5 @@
 // A record read back from its text.
-ghost use Rattle.std.specs.Prelude.{◌≡◌, ◌≢◌, ◌+◌, ◌-◌, ◌^◌, ◌<◌, ◌≤◌, ◌++◌, ℕ, List as Items, length, codes, Ok, IfOk, IfErr, IfSome, IfNone};
+ghost use Rattle.std.specs.Prelude.{◌≡◌, ◌≢◌, ◌+◌, ◌-◌, ◌^◌, ◌<◌, ◌≤◌, ◌++◌, ℕ, List as Items, length, codes, Ok, Err, IfOk, IfErr, IfSome, IfNone};
 ghost use Rattle.lc_num.specs.Channels.{IsRgbWithin};
 ghost use Rattle.lc_num.specs.Faults.{Fault};
 ghost use Rattle.lc_num.specs.Rules.{rule_number};
@@ -8,6 +8,7 @@ ghost use Rattle.lc_rated.specs.declared.answer.Answer.{Answer as AnswerValue};
 ghost use Rattle.lc_record.specs.declared.head.Header.{Header as HeaderValue};
 ghost use Rattle.lc_record.specs.Record.{IsHeader, IsSample, field, header_bytes, line_bytes};
 ghost use Rattle.lc_record.specs.Reading.{Begins, samples, IsTextOf, IsFirstFault, IsLineFault, IsStop, OrMemory, kind_number};
+ghost use Rattle.lc_record.specs.Readings.{record_in};
 ghost use Rattle.lc_record.specs.Pieces.{colour, AreLinesOf};
 
 use crate::head::Header;
@@ -185,6 +186,10 @@ pub fn read_record(alloc: Global, bytes: &[u8]) -> Result<Record, RecordStop>
     // The first fault is answered, unless memory runs out.
     ensures exact { (fault : Fault) → IsFirstFault bytes.now fault
         → OrMemory result (Err (RecordStop.Fault fault.line fault.kind)) }
+
+    // It is what the text tells, unless memory runs out.
+    ensures value { IfOk result (λ read. record_in bytes.now ≡ Ok read) }
+    ensures refused { IfErr result (λ stop. IsStop stop (λ fault. record_in bytes.now ≡ Err fault)) }
 {
     read(alloc, bytes)
 }

@@ -14,5 +14,6 @@ mod summary;
 pub use laws::{written_files, written_picture};
 pub use plain::plain_rows;
 pub use render::render_rows;
+pub use room::header_of;
 pub use stop::FrameStop;
 pub use summary::Summary;

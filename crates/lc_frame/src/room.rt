@@ -21,7 +21,8 @@ pub struct Room {
     pub bench: Bench,
 }
 
-fn header_of(job: &Job) -> Header
+/// The header of the job's record.
+pub fn header_of(job: &Job) -> Header
     ensures { result ≡ header_of job.now }
 {
     Header {

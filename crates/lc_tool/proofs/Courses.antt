@@ -3,7 +3,7 @@ use Rattle.std.proofs.Common.{◌≡◌, ℕ, List, [], ◌++◌, refl, sym, ◌
 use Rattle.std.proofs.lemmas.List.Elements.{Contains-append_left, Contains-append_right}
 use Rattle.lc_desk.specs.Desk.{DeskState, Files}
 use Rattle.lc_tool.specs.declared.status.Stop.{Stop}
-use Rattle.lc_tool.specs.declared.status.Stop.TheVariants.{Memory, Faulty, Absent, ReadFault, Long}
+use Rattle.lc_tool.specs.declared.status.Stop.TheVariants.{Memory, Faulty, Absent, ReadFault, Long, Refuted}
 use Rattle.lc_tool.specs.Course.{Course, Refusal, goes_on, and_then, at_once, refuses, told}
 use Rattle.lc_tool.specs.Status.{stop_code}
 use Rattle.lc_tool.specs.Stopped.{Reads, ReadsFirst, Gave, Went, RefusedBy, Refuses}
@@ -103,6 +103,7 @@ refuses_first ReadFault line x y step next h = record {
   read = first_kept step.reads step.end next x y h.read;
 }
 refuses_first Long line x y step next h = refused_first 10 line x y step next h
+refuses_first Refuted line x y step next h = refused_first 11 line x y step next h
 
 -- what a later step refuses, the whole refuses
 pub refuses_next : {A B : Type 0} (stop : Stop) (line : List ℕ) (x y z : DeskState) (step : Course A) (next : A → Course B) (a : A) → Gave a x y step → Refuses stop line y z (next a) → Refuses stop line x z (and_then step next)
@@ -119,6 +120,7 @@ refuses_next {A} {B} stop line x y z step next a p h = subst (Refuses stop line 
     read = first_after step.reads (next a).reads x y z p.read h.read;
   }
   later Long h = by 10 h
+  later Refuted h = by 11 h
 
 -- ---- two steps over a desk
 

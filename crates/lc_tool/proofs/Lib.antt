@@ -15,6 +15,8 @@ pub mod Worlds
 pub mod Framing
 pub mod PlainRuns
 pub mod Rendering
+pub mod Records
+pub mod Auditing
 pub mod Making
 pub mod Pictures
 pub mod Probing

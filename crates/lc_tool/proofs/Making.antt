@@ -37,7 +37,7 @@ use Rattle.lc_tool.specs.Ends.{Counts, Ends, Runs, write_line}
 use Rattle.lc_tool.specs.Noted.{Noted}
 use Rattle.lc_tool.specs.Outcome.{course_of, job_text, library_text, lights_text, made_built, made_files, made_furnished, made_lit, made_world, make_course, make_work, mesh_text, outcome, unless_faulty, unless_stopped, world_by}
 use Rattle.lc_tool.specs.Rendered.{AreCounted, HasSummary, IsMakeOf, LeavesParts, LeavesSummary, recorded}
-use Rattle.lc_tool.specs.Status.{code}
+use Rattle.lc_tool.specs.Status.{code, source_code}
 use Rattle.lc_tool.specs.Stopped.{Gave, StoppedBy}
 use Rattle.lc_tool.specs.Summaries.{summary_line}
 use Rattle.lc_tool.specs.Words.{make, command_of}
@@ -290,20 +290,24 @@ stopped_texts name (Some job_stop.Memory) job = tt
 stopped_texts name (Some (job_stop.Fault line kind)) job = (omega arith, omega arith)
 stopped_texts name (Some (job_stop.Missing key)) job = (omega arith, omega arith)
 
-faulty_texts : {A : Type 0} (text : Source) (name : List ℕ) (found : Option Fault) (value : A) → IsOfTexts (at_once (unless_faulty text name found value))
-faulty_texts text name None value = tt
-faulty_texts source.Job name (Some fault) value = (omega arith, omega arith)
-faulty_texts source.Scene name (Some fault) value = (omega arith, omega arith)
-faulty_texts source.Library name (Some fault) value = (omega arith, omega arith)
-faulty_texts source.Lights name (Some fault) value = (omega arith, omega arith)
+source_least : (text : Source) → 3 ≤ source_code text
+source_least source.Job = omega arith
+source_least source.Scene = omega arith
+source_least source.Library = omega arith
+source_least source.Lights = omega arith
+source_least source.Record = omega arith
+
+faulty_texts : {A : Type 0} (text : Source) (name : List ℕ) (found : Option Fault) (value : A) → source_code text ≤ 6 → IsOfTexts (at_once (unless_faulty text name found value))
+faulty_texts text name None value few = tt
+faulty_texts text name (Some fault) value few = (source_least text, few)
 
 made_texts : (made : Made) → IsOfTexts (made_world made)
 unfolding made_world
 made_texts made =
     texts_then (job_text (codes "made.txt") made.job) (made_built made) (stopped_texts (codes "made.txt") (first_stop made.job) (job_in made.job))
-    (λ job. texts_then (mesh_text (codes "made.obj") made.obj) (made_furnished made job) (faulty_texts source.Scene (codes "made.obj") (obj.fault_in made.obj) (obj.mesh made.obj))
-    (λ mesh. texts_then (library_text [] (codes "made.mtl") made.mtl) (made_lit made job mesh) (faulty_texts source.Library (codes "made.mtl") (mtl.fault_in (length {A = Material} []) made.mtl) (mtl.materials [] made.mtl))
-    (λ items. texts_then (lights_text (codes "made.lights") job.seed made.lights) (λ lights. at_once (Ok (world_by job mesh items lights))) (faulty_texts source.Lights (codes "made.lights") (light.fault_in made.lights) (light.lights made.lights job.seed))
+    (λ job. texts_then (mesh_text (codes "made.obj") made.obj) (made_furnished made job) (faulty_texts source.Scene (codes "made.obj") (obj.fault_in made.obj) (obj.mesh made.obj) (omega arith))
+    (λ mesh. texts_then (library_text [] (codes "made.mtl") made.mtl) (made_lit made job mesh) (faulty_texts source.Library (codes "made.mtl") (mtl.fault_in (length {A = Material} []) made.mtl) (mtl.materials [] made.mtl) (omega arith))
+    (λ items. texts_then (lights_text (codes "made.lights") job.seed made.lights) (λ lights. at_once (Ok (world_by job mesh items lights))) (faulty_texts source.Lights (codes "made.lights") (light.fault_in made.lights) (light.lights made.lights job.seed) (omega arith))
     (λ lights. tt))))
 
 make_texts : (number : ℕ) → IsOfTexts (make_course number)

@@ -10,8 +10,9 @@ use Rattle.lc_tool.specs.Outcome.{course_of, frame_course, made_world, make_work
 use Rattle.lc_tool.specs.Rendered.{AreCounted, AreFractions, AreNear, HasPicture, HasRecord, HasWorld, LeavesParts, Renders, TellsWorld}
 use Rattle.lc_tool.specs.Status.{code}
 use Rattle.lc_tool.specs.Stopped.{Gave}
-use Rattle.lc_tool.specs.Words.{Command, probe, render, plain, make, command_of}
+use Rattle.lc_tool.specs.Words.{Command, probe, render, plain, audit, make, command_of}
 use Rattle.lc_tool.specs.Work.{Work}
+use Rattle.lc_tool.proofs.Auditing.{given_record}
 use Rattle.lc_tool.proofs.Framing.{tells_world}
 use Rattle.lc_tool.proofs.Making.{make_counted, make_done, make_parts}
 use Rattle.lc_tool.proofs.Rendering.{Rendered, render_counted, render_done, render_is, render_parts, rendered_picture, rendered_record, world_fractions, world_near}
@@ -60,6 +61,7 @@ given_world None held w before start gave = tt
 given_world (Some (probe name place direction)) held w before start gave = tt
 given_world (Some (render name)) held w before start gave = frame_world render_work name held w before start gave
 given_world (Some (plain name)) held w before start gave = frame_world plain_work name held w before start gave
+given_world (Some (audit name step)) held w before start gave = given_record name step held w before start gave
 given_world (Some (make number)) held w before start gave =
     let t = went_through (made_world (made_of number)) (λ world. at_once (Ok (make_work number world))) w gave.end in
     (t.value, t.stepped)

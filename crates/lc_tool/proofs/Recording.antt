@@ -17,7 +17,7 @@ use Rattle.lc_cut.proofs.Building.{forest_of_is}
 use Rattle.lc_cut.proofs.Whole.{answer_near}
 use Rattle.lc_tool.specs.declared.status.Status.{Status}
 use Rattle.lc_tool.specs.Course.{Course, at_once, told}
-use Rattle.lc_tool.specs.Words.{Command, probe, render, plain, make}
+use Rattle.lc_tool.specs.Words.{Command, probe, render, plain, audit, make}
 use Rattle.lc_tool.specs.Work.{Work}
 use Rattle.lc_tool.specs.Outcome.{probe_scene, lights_of, probe_size, probe_permille, probe_rule, probe_spot, probe_answer, probe_work, probe_course, course_of}
 use Rattle.lc_tool.specs.Probed.{ProbeRecorded, Recorded}
@@ -92,4 +92,5 @@ run_recorded (Some (probe name place direction)) status before now steps_before 
     done_recorded name place direction status before now steps_before steps_now proper.0 runs counts zero
 run_recorded (Some (render name)) status before now steps_before steps_now proper runs counts zero = some_told before.held _ (λ files. tt)
 run_recorded (Some (plain name)) status before now steps_before steps_now proper runs counts zero = some_told before.held _ (λ files. tt)
+run_recorded (Some (audit name step)) status before now steps_before steps_now proper runs counts zero = some_told before.held _ (λ files. tt)
 run_recorded (Some (make number)) status before now steps_before steps_now proper runs counts zero = some_told before.held _ (λ files. tt)

@@ -41,13 +41,13 @@ flat-map : {A B : Type 0} (f : A → B) (lists : List (List A)) → flat (map (m
 flat-map f [] = refl
 flat-map f (list ∷ later) = ap (λ l. map f list ++ l) (flat-map f later) ∙ sym (map-append f list (flat later))
 
-abbrev rays_of : World → List Ray
+abbrev pub rays_of : World → List Ray
 rays_of world = flat (flat (picture_rays world.job.camera))
 
-abbrev sample_in : World → Ray → Answer
+abbrev pub sample_in : World → Ray → Answer
 sample_in world ray = sample_of world.job.cut world.job.permille world.job.rule world.scene ray
 
-recorded_are : (world : World) → recorded world ≡ map (sample_in world) (rays_of world)
+pub recorded_are : (world : World) → recorded world ≡ map (sample_in world) (rays_of world)
 unfolding answers_of
 recorded_are world =
     ap flat (flat-map (map (sample_in world)) (picture_rays world.job.camera)) ∙ flat-map (sample_in world) (flat (picture_rays world.job.camera))
@@ -56,7 +56,7 @@ each_of : {X : Type 0} (P : X → Type 0) → ((x : X) → P x) → (xs : List X
 each_of P f [] = All-nil P
 each_of P f (x ∷ xs) = All-cons P x xs (f x) (each_of P f xs)
 
-each_recorded : (P : Answer → Type 0) (world : World) → ((ray : Ray) → P (sample_in world ray)) → All P (recorded world)
+pub each_recorded : (P : Answer → Type 0) (world : World) → ((ray : Ray) → P (sample_in world ray)) → All P (recorded world)
 each_recorded P world f =
     subst (All P) (sym (recorded_are world)) (All-map P (sample_in world) (rays_of world) (each_of (λ ray. P (sample_in world ray)) f (rays_of world)))
 

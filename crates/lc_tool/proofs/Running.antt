@@ -15,13 +15,13 @@ use Rattle.lc_frame.specs.Stops.{StoppedIn}
 use Rattle.lc_frame.specs.declared.stop.FrameStop.{FrameStop}
 use Rattle.lc_frame.specs.declared.stop.FrameStop.TheVariants as frame
 use Rattle.lc_tool.specs.declared.status.Source.{Source}
-use Rattle.lc_tool.specs.declared.status.Source.TheVariants.{Job, Scene, Library, Lights}
+use Rattle.lc_tool.specs.declared.status.Source.TheVariants.{Job, Scene, Library, Lights, Record}
 use Rattle.lc_tool.specs.declared.status.Stop.{Stop}
-use Rattle.lc_tool.specs.declared.status.Stop.TheVariants.{Memory, Faulty, Absent, ReadFault, Long}
+use Rattle.lc_tool.specs.declared.status.Stop.TheVariants.{Memory, Faulty, Absent, ReadFault, Long, Refuted}
 use Rattle.lc_tool.specs.declared.status.Status.{Status}
 use Rattle.lc_tool.specs.declared.status.Status.TheVariants.{Done, Usage, Stopped, Unwritten}
 use Rattle.lc_tool.specs.Course.{Course}
-use Rattle.lc_tool.specs.Words.{Command, probe, render, plain, make}
+use Rattle.lc_tool.specs.Words.{Command, probe, render, plain, audit, make}
 use Rattle.lc_tool.specs.Work.{Work, calls_of}
 use Rattle.lc_tool.specs.Lines.{usage_line}
 use Rattle.lc_tool.specs.Outcome.{course_of, slots_of, status_of}
@@ -54,7 +54,7 @@ stop_of n =
     then Faulty Scene
     else if n == 5
     then Faulty Library
-    else if n == 6 then Faulty Lights else if n == 7 then Absent else if n == 8 then ReadFault else if n == 10 then Long else Memory
+    else if n == 6 then Faulty Lights else if n == 7 then Absent else if n == 8 then ReadFault else if n == 10 then Long else if n == 11 then Refuted else if n == 12 then Faulty Record else Memory
 
 stop_of-code : (stop : Stop) → stop_of (stop_code stop) ≡ stop
 unfolding stop_of
@@ -66,6 +66,8 @@ stop_of-code (Faulty Lights) = refl
 stop_of-code Absent = refl
 stop_of-code ReadFault = refl
 stop_of-code Long = refl
+stop_of-code (Faulty Record) = refl
+stop_of-code Refuted = refl
 
 not_nine : (stop : Stop) → stop_code stop ≡ 9 → ⊥
 not_nine Memory e = omega arith
@@ -76,6 +78,8 @@ not_nine (Faulty Lights) e = omega arith
 not_nine Absent e = omega arith
 not_nine ReadFault e = omega arith
 not_nine Long e = omega arith
+not_nine (Faulty Record) e = omega arith
+not_nine Refuted e = omega arith
 
 not_two : (stop : Stop) → stop_code stop ≡ 2 → ⊥
 not_two Memory e = omega arith
@@ -86,8 +90,10 @@ not_two (Faulty Lights) e = omega arith
 not_two Absent e = omega arith
 not_two ReadFault e = omega arith
 not_two Long e = omega arith
+not_two (Faulty Record) e = omega arith
+not_two Refuted e = omega arith
 
-some_stop : (stop : Stop) → (0 < stop_code stop) × (stop_code stop ≤ 10)
+some_stop : (stop : Stop) → (0 < stop_code stop) × (stop_code stop ≤ 12)
 some_stop Memory = (omega arith, omega arith)
 some_stop (Faulty Job) = (omega arith, omega arith)
 some_stop (Faulty Scene) = (omega arith, omega arith)
@@ -96,6 +102,8 @@ some_stop (Faulty Lights) = (omega arith, omega arith)
 some_stop Absent = (omega arith, omega arith)
 some_stop ReadFault = (omega arith, omega arith)
 some_stop Long = (omega arith, omega arith)
+some_stop (Faulty Record) = (omega arith, omega arith)
+some_stop Refuted = (omega arith, omega arith)
 
 same_stop : (a b : Stop) → stop_code a ≡ stop_code b → a ≡ b
 same_stop a b e = sym (stop_of-code a) ∙ ap stop_of e ∙ stop_of-code b
@@ -120,8 +128,9 @@ faulty_more Job = omega arith
 faulty_more Scene = omega arith
 faulty_more Library = omega arith
 faulty_more Lights = omega arith
+faulty_more Record = omega arith
 
-pub code_most : (status : Status) → code status ≤ 10
+pub code_most : (status : Status) → code status ≤ 12
 code_most Done = omega arith
 code_most Usage = omega arith
 code_most (Stopped stop) = (some_stop stop).1
@@ -140,6 +149,7 @@ off_note (Some (render name)) =
     All-cons (λ s. s ≡ Note → ⊥) Picture (Bounds ∷ []) (λ e. cc)
     (All-cons (λ s. s ≡ Note → ⊥) Bounds [] (λ e. cc) (All-nil (λ s. s ≡ Note → ⊥)))
 off_note (Some (plain name)) = All-cons (λ s. s ≡ Note → ⊥) Picture [] (λ e. cc) (All-nil (λ s. s ≡ Note → ⊥))
+off_note (Some (audit name step)) = All-cons (λ s. s ≡ Note → ⊥) Report [] (λ e. cc) (All-nil (λ s. s ≡ Note → ⊥))
 off_note (Some (make number)) =
     All-cons (λ s. s ≡ Note → ⊥) Picture (Bounds ∷ Report ∷ []) (λ e. cc)
     (All-cons (λ s. s ≡ Note → ⊥) Bounds (Report ∷ []) (λ e. cc) (All-cons (λ s. s ≡ Note → ⊥) Report [] (λ e. cc) (All-nil (λ s. s ≡ Note → ⊥))))
@@ -312,6 +322,8 @@ run_complete (Some command) (Stopped Absent) held before now h c e faultless =
 run_complete (Some command) (Stopped ReadFault) held before now h c e faultless = absurd (faultless.reads h.cause)
 run_complete (Some command) (Stopped Long) held before now h c e faultless =
     inl (sym (ap status_of (some_here _ (Refuses Long h.line before now) c e h.told).end))
+run_complete (Some command) (Stopped Refuted) held before now h c e faultless =
+    inl (sym (ap status_of (some_here _ (Refuses Refuted h.line before now) c e h.told).end))
 run_complete (Some command) (Unwritten frame.Memory) held before now h c e faultless = inr refl
 run_complete (Some command) (Unwritten (frame.Write slot)) held before now h c e faultless =
     let given : c.end ≡ Ok h.work = (some_here _ (Gave h.work before h.start) c e h.began.told).end in
@@ -374,6 +386,7 @@ refused_reads (Faulty text) line before now c h = all_read c.reads before now h.
 refused_reads Absent line before now c h = all_read c.reads before now h.read
 refused_reads ReadFault line before now c h = h.read
 refused_reads Long line before now c h = all_read c.reads before now h.read
+refused_reads Refuted line before now c h = all_read c.reads before now h.read
 
 broke_begins : (why : PutStop) (calls : List Call) (x y : DeskState) → BrokeOff why calls x y → BeginsFirst (begins_of calls) x y
 broke_begins why calls x y b = record {

@@ -7,7 +7,7 @@ use Rattle.lc_desk.proofs.CallLemmas.{later_then}
 use Rattle.lc_desk.specs.Desk.{DeskState, Files, Told, Later, OnlyReads, with_slot}
 use Rattle.lc_tool.specs.declared.status.Source.{Source}
 use Rattle.lc_tool.specs.declared.status.Stop.{Stop}
-use Rattle.lc_tool.specs.declared.status.Stop.TheVariants.{Memory, Faulty, Absent, ReadFault, Long}
+use Rattle.lc_tool.specs.declared.status.Stop.TheVariants.{Memory, Faulty, Absent, ReadFault, Long, Refuted}
 use Rattle.lc_tool.specs.Course.{Course, refuses, and_then, at_once, told}
 use Rattle.lc_tool.specs.Lines.{memory_line, absent_line, long_line, read_fault_line}
 use Rattle.lc_tool.specs.Outcome.{text_of, within}
@@ -33,6 +33,7 @@ cause_since (Faulty text) before mid now later counts h = h
 cause_since Absent before mid now later counts h = Rose-since _ _ _ later.absents h
 cause_since ReadFault before mid now later counts h = Rose-since _ _ _ later.reads h
 cause_since Long before mid now later counts h = Rose-since _ _ _ later.longs h
+cause_since Refuted before mid now later counts h = h
 
 -- ---- one read
 

@@ -5,7 +5,7 @@ use Rattle.std.proofs.lemmas.Bool.Decides.{nat_tests}
 use Rattle.std.specs.Prelude.{◌&&◌, ◌==◌}
 use Rattle.std.specs.Str.{bytes_eq}
 use Rattle.lc_scan.specs.Whole.{whole_of}
-use Rattle.lc_tool.specs.Words.{render, plain, make_of, texts, probe_of, word_at, vector_at, begins, command_of}
+use Rattle.lc_tool.specs.Words.{render, plain, audit_of, make_of, texts, probe_of, word_at, vector_at, begins, command_of}
 
 differ : (a b : ℕ) → (a ≡ b → ⊥) → (a == b) ≡ false
 differ a b h = grind (arith, nat_tests)
@@ -27,10 +27,14 @@ first_word (x ∷ xs) none e = refl
 pub not_this_word : (words : List (Bor (List ℕ))) (none : Bor (List ℕ)) (first : List ℕ) (count : ℕ) → none.now ≡ [] → bytes_eq (get_or words 0 none).now first ≡ false → begins (texts words) first count ≡ false
 not_this_word words none first count e h = ap (λ b. (length (texts words) == count) && b) (ap (λ w. bytes_eq w first) (sym (first_word words none e)) ∙ h) ∙ no_and (length (texts words) == count)
 
-pub no_command : (words : List (List ℕ)) → begins words (codes "probe") 8 ≡ false → begins words (codes "render") 2 ≡ false → begins words (codes "plain") 2 ≡ false → begins words (codes "make") 2 ≡ false → None ≡ command_of words
-no_command words a b c d =
+pub no_command : (words : List (List ℕ)) → begins words (codes "probe") 8 ≡ false → begins words (codes "render") 2 ≡ false → begins words (codes "plain") 2 ≡ false
+    → begins words (codes "audit") 3 ≡ false → begins words (codes "make") 2 ≡ false → None ≡ command_of words
+no_command words a b c d e =
     let made = cond (begins words (codes "make") 2) (make_of (whole_of (word_at words 1))) None in
-    let last = cond (begins words (codes "plain") 2) (Some (plain (word_at words 1))) made in
+    let audits = cond (begins words (codes "audit") 3) (audit_of (word_at words 1) (whole_of (word_at words 2))) made in
+    let last = cond (begins words (codes "plain") 2) (Some (plain (word_at words 1))) audits in
     sym (ap (λ x. cond x (probe_of (word_at words 1) (vector_at words 2) (vector_at words 5)) (cond (begins words (codes "render") 2) (Some (render (word_at words 1))) last)) a
     ∙ ap (λ x. cond x (Some (render (word_at words 1))) last) b
-    ∙ ap (λ x. cond x (Some (plain (word_at words 1))) made) c ∙ ap (λ x. cond x (make_of (whole_of (word_at words 1))) None) d)
+    ∙ ap (λ x. cond x (Some (plain (word_at words 1))) audits) c
+    ∙ ap (λ x. cond x (audit_of (word_at words 1) (whole_of (word_at words 2))) made) d
+    ∙ ap (λ x. cond x (make_of (whole_of (word_at words 1))) None) e)

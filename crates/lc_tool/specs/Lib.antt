@@ -10,6 +10,7 @@ pub mod Stopped
 pub mod Ends
 pub mod Probed
 pub mod Rendered
+pub mod Audited
 pub mod Meant
 pub use Rattle.lc_num.specs.Vectors
 pub use Rattle.lc_num.specs.Cosines
@@ -47,6 +48,9 @@ pub use Rattle.lc_job.specs.Keys
 pub use Rattle.lc_sample.specs.Scenes
 pub use Rattle.lc_sample.specs.Sampled
 pub use Rattle.lc_record.specs.Record
+pub use Rattle.lc_record.specs.Readings
+pub use Rattle.lc_record.specs.Reading
+pub use Rattle.lc_audit.specs.Verdicts
 pub use Rattle.lc_frame.specs.Files
 pub use Rattle.lc_frame.specs.Frames
 pub use Rattle.lc_frame.specs.PlainFrames

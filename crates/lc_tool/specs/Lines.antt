@@ -4,6 +4,8 @@ use Rattle.lc_desk.specs.declared.desk.Slot.{Slot}
 use Rattle.lc_desk.specs.declared.desk.Slot.TheVariants.{Picture, Bounds, Report, Note}
 use Rattle.lc_job.specs.Keys.{word}
 use Rattle.lc_job.specs.declared.key.Key.{Key}
+use Rattle.lc_audit.specs.Verdicts.{channel_number}
+use Rattle.lc_audit.specs.declared.verdict.Miss.{Miss}
 
 abbrev pub memory_line : List ℕ
 memory_line = codes "out of memory\n"
@@ -37,5 +39,19 @@ write_fault_line slot = slot_word slot ++ codes " write fault\n"
 abbrev pub file_limit : ℕ
 file_limit = 134217728
 
+-- the limit of a record
+abbrev pub record_limit : ℕ
+record_limit = 536870912
+
 abbrev pub long_line : ℕ → List ℕ → List ℕ
 long_line limit name = name ++ (codes ": longer than " ++ decimal limit ++ codes " bytes\n")
+
+-- a sample and a channel, with the sum over all lights, the estimate and the bound there
+unfoldable pub miss_words : Miss → List ℕ
+miss_words miss =
+    codes " sample " ++ decimal miss.sample ++ codes " channel " ++ decimal (channel_number miss.channel) ++ codes " plain " ++ decimal miss.plain
+    ++ codes " est " ++ decimal miss.est ++ codes " bound " ++ decimal miss.bound ++ codes "\n"
+
+-- the first sample and channel where a recorded bound does not hold
+abbrev pub miss_line : Miss → List ℕ
+miss_line miss = codes "audit:" ++ miss_words miss

@@ -1,6 +1,7 @@
 -- What a command answers, by its words and the files.
-use Rattle.std.specs.Prelude.{ℕ, ◌==◌, codes, Bool, List, [], ◌∷◌, ◌++◌, length, map, slice_index, Option, Some, None, Result, Ok, Err, if◌then◌else◌, nat_lt}
+use Rattle.std.specs.Prelude.{ℕ, ◌==◌, codes, decimal, Bool, List, [], ◌∷◌, ◌++◌, length, map, slice_index, Option, Some, None, Result, Ok, Err, if◌then◌else◌, nat_lt}
 use Rattle.std.specs.List.{list_any}
+use Rattle.std.specs.Str.{bytes_eq}
 use Rattle.lc_num.specs.Vectors.{zero_vector}
 use Rattle.lc_num.specs.Cosines.{scaled}
 use Rattle.lc_num.specs.Faults.{Fault}
@@ -27,11 +28,16 @@ use Rattle.lc_job.specs.declared.job.Job.{Job}
 use Rattle.lc_job.specs.declared.stop.JobStop.{JobStop}
 use Rattle.lc_job.specs.declared.stop.JobStop.TheVariants as job_stop
 use Rattle.lc_sample.specs.Scenes.{scene_of}
-use Rattle.lc_record.specs.Record.{line_bytes}
+use Rattle.lc_record.specs.Record.{header_bytes, line_bytes}
+use Rattle.lc_record.specs.Readings.{record_in}
+use Rattle.lc_record.specs.declared.reader.Record.{Record}
+use Rattle.lc_audit.specs.Verdicts.{verdict}
+use Rattle.lc_audit.specs.declared.verdict.Verdict.{Verdict}
+use Rattle.lc_audit.specs.declared.verdict.Verdict.TheVariants.{Yes, No}
 use Rattle.lc_make.specs.Made.{made_of}
 use Rattle.lc_make.specs.declared.made.Made.{Made}
 use Rattle.lc_frame.specs.Files.{files as frame_files, picture_file}
-use Rattle.lc_frame.specs.Frames.{answers_of, evals_of, render_calls, samples}
+use Rattle.lc_frame.specs.Frames.{answers_of, evals_of, header_of, render_calls, samples}
 use Rattle.lc_frame.specs.PlainFrames.{plain_calls, plain_lights}
 use Rattle.lc_tool.specs.declared.status.Source.{Source}
 use Rattle.lc_tool.specs.declared.status.Source.TheVariants as source
@@ -39,9 +45,9 @@ use Rattle.lc_tool.specs.declared.world.World.{World}
 use Rattle.lc_tool.specs.Status.{source_code}
 use Rattle.lc_tool.specs.Summaries.{summary_line}
 use Rattle.lc_tool.specs.Course.{Course, Refusal, refuses, and_then, at_once, told}
-use Rattle.lc_tool.specs.Lines.{usage_line, absent_line, long_line, fault_line, missing_line, file_limit}
+use Rattle.lc_tool.specs.Lines.{usage_line, absent_line, long_line, fault_line, missing_line, miss_line, file_limit, record_limit}
 use Rattle.lc_tool.specs.Work.{Work}
-use Rattle.lc_tool.specs.Words.{Command, probe, render, plain, make, command_of}
+use Rattle.lc_tool.specs.Words.{Command, probe, render, plain, audit, make, command_of}
 
 -- ---- reads
 
@@ -207,6 +213,55 @@ plain_work world = record { calls = plain_calls world.job (plain_lights world.jo
 abbrev pub plain_course : List ℕ → Files → Course Work
 plain_course name files = frame_course plain_work name files
 
+-- ---- audit
+
+-- a record, or the refusal by its text's first fault
+abbrev pub unless_wrong : List ℕ → Result Record Fault → Result Record Refusal
+unless_wrong name (Ok kept) = Ok kept
+unless_wrong name (Err fault) = refuses (source_code source.Record) (fault_line name fault.line fault.kind)
+
+-- the record of a text
+abbrev pub kept_text : List ℕ → List ℕ → Course Record
+kept_text name text = at_once (unless_wrong name (record_in text))
+
+-- the record of a file
+abbrev pub kept_of : List ℕ → Files → Course Record
+kept_of name files = and_then (text_of record_limit name files) (λ text. kept_text name text)
+
+-- the kind of the fault of a record that begins with another header than the job's
+abbrev pub other_header : ℕ
+other_header = 4
+
+-- a record that begins with the header of the job
+abbrev pub same_header : List ℕ → Job → Record → Course Record
+same_header name job kept = at_once (if bytes_eq (header_bytes kept.header) (header_bytes (header_of job))
+    then Ok kept
+    else refuses (source_code source.Record) (fault_line name 1 other_header))
+
+-- the record of a job's picture
+abbrev pub record_of : Job → Files → Course Record
+record_of job files = and_then (kept_of job.bounds files) (λ kept. same_header job.bounds job kept)
+
+-- the line of a verdict that is yes, with how many samples were looked at
+abbrev pub yes_line : ℕ → List ℕ
+yes_line checked = codes "audit yes " ++ decimal checked ++ codes "\n"
+
+-- what a verdict has written; no light is evaluated to choose a cut
+abbrev pub judged : Verdict → Result Work Refusal
+judged (Yes checked) = Ok (record { calls = put Report (yes_line checked) ∷ []; evals = 0 })
+judged (No miss) = refuses 11 (miss_line miss)
+
+-- the verdict on a record of a world by the samples that a step divides
+abbrev pub audited : ℕ → World → Record → Course Work
+audited step world kept = at_once (judged (verdict world.scene world.job kept.lines step))
+
+-- with the record of the world's job
+abbrev pub audit_world : ℕ → World → Files → Course Work
+audit_world step world files = and_then (record_of world.job files) (λ kept. audited step world kept)
+
+abbrev pub audit_course : List ℕ → ℕ → Files → Course Work
+audit_course name step files = and_then (world_of name files) (λ world. audit_world step world files)
+
 -- ---- make
 
 -- with the lights of made texts
@@ -244,6 +299,7 @@ course_of None held = Some (at_once (refuses 2 usage_line))
 course_of (Some (probe name place direction)) held = told (probe_course name place direction) held
 course_of (Some (render name)) held = told (render_course name) held
 course_of (Some (plain name)) held = told (plain_course name) held
+course_of (Some (audit name step)) held = told (audit_course name step) held
 course_of (Some (make number)) held = Some (make_course number)
 
 -- the outcome of these words over the files that a desk holds
@@ -265,4 +321,5 @@ slots_of None = []
 slots_of (Some (probe name place direction)) = Report ∷ []
 slots_of (Some (render name)) = frame_files
 slots_of (Some (plain name)) = picture_file
+slots_of (Some (audit name step)) = Report ∷ []
 slots_of (Some (make number)) = made_files

@@ -8,7 +8,7 @@ use Rattle.lc_rated.specs.declared.answer.Answer.{Answer}
 use Rattle.lc_rated.specs.Cuts.{IsNear, IsFraction}
 use Rattle.lc_record.specs.Record.{line_bytes}
 use Rattle.lc_tool.specs.Outcome.{probe_spot, probe_scene, probe_size, probe_permille, probe_answer}
-use Rattle.lc_tool.specs.Words.{Command, probe, render, plain as plain_words, make, command_of}
+use Rattle.lc_tool.specs.Words.{Command, probe, render, plain as plain_words, audit, make, command_of}
 
 -- Report has gained one line, and each other slot is as it was. The line is the answer of the chosen cut. Its estimate
 -- differs from the sum over all lights of the file by at most its bound, and its bound is within the permille of the
@@ -32,6 +32,7 @@ Recorded None files before now steps_before steps_now = Unit {0}
 Recorded (Some (probe name place direction)) files before now steps_before steps_now = ProbeRecorded name place direction files before now steps_before steps_now
 Recorded (Some (render name)) files before now steps_before steps_now = Unit {0}
 Recorded (Some (plain_words name)) files before now steps_before steps_now = Unit {0}
+Recorded (Some (audit name step)) files before now steps_before steps_now = Unit {0}
 Recorded (Some (make number)) files before now steps_before steps_now = Unit {0}
 
 -- over a desk that tells its files, the command has left its record

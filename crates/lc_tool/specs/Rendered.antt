@@ -12,7 +12,7 @@ use Rattle.lc_tool.specs.declared.world.World.{World}
 use Rattle.lc_make.specs.Made.{made_of}
 use Rattle.lc_tool.specs.Outcome.{made_world, world_of}
 use Rattle.lc_tool.specs.Summaries.{summary_line}
-use Rattle.lc_tool.specs.Words.{Command, probe, render, plain, make, command_of}
+use Rattle.lc_tool.specs.Words.{Command, probe, render, plain, audit, make, command_of}
 
 -- the words are a command on a job, and by the files that the desk tells this is the world of that job
 pub record IsOf (asks : List ℕ → Command) (words : List (List ℕ)) (held : Option Files) (world : World) : Type 0 where
@@ -44,13 +44,18 @@ Renders words held world = IsRenderOf words held world ⊎ IsMakeOf words world
 abbrev pub TellsWorld : List ℕ → Files → Type 0
 TellsWorld name files = (world : World) × ((world_of name files).end ≡ Ok world)
 
--- where the words are a command on a job and the desk tells its files, these tell the world of the job; and the texts that
--- `make` makes tell a world
+-- files tell the world of this job, and hold a file under the name of its record
+abbrev pub TellsRecord : List ℕ → Files → Type 0
+TellsRecord name files = (world : World) × (text : List ℕ) × ((world_of name files).end ≡ Ok world) × (files world.job.bounds ≡ Some text)
+
+-- where the words are a command on a job and the desk tells its files, these tell the world of the job, and for `audit` its
+-- record; and the texts that `make` makes tell a world
 abbrev pub HasWorld : Option Command → Option Files → Type 0
 HasWorld None held = Unit {0}
 HasWorld (Some (probe name place direction)) held = Unit {0}
 HasWorld (Some (render name)) held = IfSome held (TellsWorld name)
 HasWorld (Some (plain name)) held = IfSome held (TellsWorld name)
+HasWorld (Some (audit name step)) held = IfSome held (TellsRecord name)
 HasWorld (Some (make number)) held = (world : World) × ((made_world (made_of number)).end ≡ Ok world)
 
 -- the answers that are recorded: one for each sample of the picture

@@ -15,6 +15,7 @@ source_code source.Job = 3
 source_code source.Scene = 4
 source_code source.Library = 5
 source_code source.Lights = 6
+source_code source.Record = 12
 
 abbrev pub stop_code : Stop → ℕ
 stop_code stop.Memory = 1
@@ -22,6 +23,7 @@ stop_code (stop.Faulty text) = source_code text
 stop_code stop.Absent = 7
 stop_code stop.ReadFault = 8
 stop_code stop.Long = 10
+stop_code stop.Refuted = 11
 
 abbrev pub write_code : FrameStop → ℕ
 write_code frame.Memory = 1

@@ -3,13 +3,14 @@ use Rattle.std.specs.Prelude.{◌≡◌, ◌⊎◌, ℕ, List, ◌++◌, Contain
 use Rattle.lc_desk.specs.Causes.{Rose}
 use Rattle.lc_desk.specs.Desk.{DeskState, OnlyReads}
 use Rattle.lc_job.specs.declared.key.Key.{Key}
+use Rattle.lc_audit.specs.declared.verdict.Miss.{Miss}
 use Rattle.lc_tool.specs.declared.status.Source.{Source}
 use Rattle.lc_tool.specs.declared.status.Source.TheVariants as source
 use Rattle.lc_tool.specs.declared.status.Stop.{Stop}
-use Rattle.lc_tool.specs.declared.status.Stop.TheVariants.{Memory, Faulty, Absent, ReadFault, Long}
+use Rattle.lc_tool.specs.declared.status.Stop.TheVariants.{Memory, Faulty, Absent, ReadFault, Long, Refuted}
 use Rattle.lc_tool.specs.Course.{Course, refuses}
 use Rattle.lc_tool.specs.Status.{stop_code}
-use Rattle.lc_tool.specs.Lines.{memory_line, absent_line, read_fault_line, long_line, fault_line, missing_line}
+use Rattle.lc_tool.specs.Lines.{memory_line, absent_line, read_fault_line, long_line, fault_line, missing_line, miss_line}
 use Rattle.lc_tool.specs.Noted.{Noted}
 
 -- ---- what was read
@@ -50,6 +51,7 @@ IsFaultLine source.Job line = (name : List ℕ) × (((n : ℕ) × (kind : ℕ) �
 IsFaultLine source.Scene line = (name : List ℕ) × (n : ℕ) × (kind : ℕ) × (line ≡ fault_line name n kind)
 IsFaultLine source.Library line = (name : List ℕ) × (n : ℕ) × (kind : ℕ) × (line ≡ fault_line name n kind)
 IsFaultLine source.Lights line = (name : List ℕ) × (n : ℕ) × (kind : ℕ) × (line ≡ fault_line name n kind)
+IsFaultLine source.Record line = (name : List ℕ) × (n : ℕ) × (kind : ℕ) × (line ≡ fault_line name n kind)
 
 -- the form of a stop's line
 abbrev pub IsStopLine : Stop → List ℕ → Type 0
@@ -58,6 +60,7 @@ IsStopLine (Faulty text) line = IsFaultLine text line
 IsStopLine Absent line = (name : List ℕ) × (line ≡ absent_line name)
 IsStopLine ReadFault line = (name : List ℕ) × (line ≡ read_fault_line name)
 IsStopLine Long line = (name : List ℕ) × (limit : ℕ) × (line ≡ long_line limit name)
+IsStopLine Refuted line = (miss : Miss) × (line ≡ miss_line miss)
 
 -- the count that a stop rests on rose; want of memory is told only where no read was refused for another reason
 abbrev pub HasCause : Stop → DeskState → DeskState → Type 0
@@ -66,6 +69,7 @@ HasCause (Faulty text) before now = Unit {0}
 HasCause Absent before now = Rose before.absents now.absents
 HasCause ReadFault before now = Rose before.faults.reads now.faults.reads
 HasCause Long before now = Rose before.longs now.longs
+HasCause Refuted before now = Unit {0}
 
 -- the file on the line is read, and nothing is refused before it
 pub record Reaches {A : Type 0} (line : List ℕ) (course : Course A) : Type 0 where
@@ -90,6 +94,7 @@ Refuses (Faulty text) line before now course = RefusedBy (stop_code (Faulty text
 Refuses Absent line before now course = RefusedBy 7 line before now course
 Refuses ReadFault line before now course = BrokenAt line before now course
 Refuses Long line before now course = RefusedBy 10 line before now course
+Refuses Refuted line before now course = RefusedBy 11 line before now course
 
 -- the run stopped before anything was written, and Note has gained the stop's line
 pub record StoppedBy {A : Type 0} (stop : Stop) (course : Option (Course A)) (before now : DeskState) : Type 0 where

@@ -1,5 +1,5 @@
 -- The words of the command line, as a command.
-use Rattle.std.specs.Prelude.{ℕ, ◌+◌, ◌==◌, ◌&&◌, Bool, List, [], length, slice_index_or, Option, Some, None, Result, Ok, Err, ℤ, unsigned_abs, nat_lt, if◌then◌else◌, codes, map}
+use Rattle.std.specs.Prelude.{ℕ, ◌+◌, ◌==◌, ◌&&◌, ◌||◌, Bool, List, [], length, slice_index_or, Option, Some, None, Result, Ok, Err, ℤ, unsigned_abs, nat_lt, if◌then◌else◌, codes, map}
 use Rattle.std.proofs.Common.{Bor}
 use Rattle.std.specs.Str.{bytes_eq}
 use Rattle.lc_num.specs.declared.vectors.Vec3.{Vec3}
@@ -18,6 +18,8 @@ pub data Command : Type 0 where
   render : List ℕ → Command
   -- the name of a job, whose picture is made by the sum over all lights
   plain : List ℕ → Command
+  -- the name of a job, whose record is checked at every so many of its samples
+  audit : List ℕ → ℕ → Command
   -- the number of a scene that is made of it, whose picture and record are made
   make : ℕ → Command
 
@@ -48,6 +50,11 @@ vector_at words k = vector_of (coordinate (word_at words k)) (coordinate (word_a
 abbrev pub begins : List (List ℕ) → List ℕ → ℕ → Bool
 begins words first count = length words == count && bytes_eq (word_at words 0) first
 
+-- a step from 1 to 4,294,967,295
+abbrev pub audit_of : List ℕ → Result ℕ NumFault → Option Command
+audit_of name (Err fault) = None
+audit_of name (Ok n) = if nat_lt 4_294_967_295 n || n == 0 then None else Some (audit name n)
+
 -- a whole number of at most 9999
 abbrev pub make_of : Result ℕ NumFault → Option Command
 make_of (Err fault) = None
@@ -62,4 +69,6 @@ command_of words =
     then Some (render (word_at words 1))
     else (if begins words (codes "plain") 2
     then Some (plain (word_at words 1))
-    else (if begins words (codes "make") 2 then make_of (whole_of (word_at words 1)) else None)))
+    else (if begins words (codes "audit") 3
+    then audit_of (word_at words 1) (whole_of (word_at words 2))
+    else (if begins words (codes "make") 2 then make_of (whole_of (word_at words 1)) else None))))

@@ -1,4 +1,4 @@
-// One failing call at each place of a render.
+// One failing call at each place of a render and of an audit.
 use crate::tests::serve;
 use lc_desk::{MemoryDesk, Slot};
 use lc_num::Memory;
@@ -123,6 +123,70 @@ fn puts_a_line_on_note_in_two_pieces(rt: HostRuntime) -> Result<(), Fail> {
             let _ = render(rt.alloc(), &mut desk);
             assert_eq!(rt; desk.told(Slot::Note), whole.as_bytes());
         }
+    }
+    Ok(())
+}
+
+const YES: &[u8] = b"audit yes 3\n";
+
+/// Audits the record of the render of a triangle in the middle of three pixels.
+fn audit(alloc: Global, desk: &mut MemoryDesk) -> u8 {
+    serve(alloc, &["audit", "j.txt", "1"], desk)
+}
+
+fn desk_with_record(alloc: Global) -> Result<MemoryDesk, Memory> {
+    let mut desk = desk_of_three(alloc)?;
+    desk.add("b.lcb", RECORD)?;
+    Ok(desk)
+}
+
+/// Report holds so many bytes, the first ones of what it is to hold, and Picture and Bounds hold none.
+fn expect_report(rt: &impl Abort, call: u64, desk: &MemoryDesk, report: usize) {
+    assert_eq!(rt; desk.told(Slot::Report).len(), report, "call {call}");
+    assert!(rt; YES.starts_with(desk.told(Slot::Report)), "call {call}");
+    assert_eq!(rt; desk.told(Slot::Picture), b"".as_slice());
+    assert_eq!(rt; desk.told(Slot::Bounds), b"".as_slice());
+}
+
+/// The call of an audit that fails, the status, the line on Note, and the bytes in Report.
+const AUDIT_STOPS: [(u64, u8, &str, usize); 6] = [
+    (1, 8, "j.txt: read fault\n", 0),
+    (2, 8, "s.obj: read fault\n", 0),
+    (3, 8, "l.txt: read fault\n", 0),
+    (4, 8, "b.lcb: read fault\n", 0),
+    (5, 9, "report: write fault\n", 2),
+    (6, 0, "", 12),
+];
+
+#[test]
+fn stops_an_audit_at_each_call(rt: HostRuntime) -> Result<(), Fail> {
+    for (call, status, note, report) in AUDIT_STOPS {
+        let mut desk = desk_with_record(rt.alloc())?;
+        desk.fail(call, 2)?;
+        assert_eq!(rt; audit(rt.alloc(), &mut desk), status, "call {call}");
+        assert_eq!(rt; desk.told(Slot::Note), note.as_bytes(), "call {call}");
+        expect_report(&rt, call, &desk, report);
+    }
+    Ok(())
+}
+
+/// Where the put on Note fails as well, the status and Report are the same, and Note has the first two bytes of the line.
+#[test]
+fn stops_an_audit_at_each_call_and_at_the_next(rt: HostRuntime) -> Result<(), Fail> {
+    for (call, status, note, report) in AUDIT_STOPS {
+        if status == 0 {
+            break;
+        }
+        let mut desk = desk_with_record(rt.alloc())?;
+        desk.fail(call, 2)?;
+        desk.fail(call.saturating_add(1), 2)?;
+        assert_eq!(rt; audit(rt.alloc(), &mut desk), status, "call {call}");
+        assert_eq!(rt; desk.told(Slot::Note).len(), 2, "call {call}");
+        assert!(rt;
+            note.as_bytes().starts_with(desk.told(Slot::Note)),
+            "call {call}"
+        );
+        expect_report(&rt, call, &desk, report);
     }
     Ok(())
 }

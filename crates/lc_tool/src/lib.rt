@@ -1,6 +1,7 @@
 //! The commands of `lightcuts`, over a desk.
 #![tactic(auto)]
 
+mod audit;
 mod fixed;
 mod make;
 mod names;
@@ -19,6 +20,8 @@ mod write;
 
 pub use program::run;
 
+#[cfg(test)]
+mod audit_tests;
 #[cfg(test)]
 mod failing_tests;
 #[cfg(test)]

@@ -1,12 +1,13 @@
 // Lines on Note, put in two pieces without taking memory.
 ghost use Rattle.std.specs.Prelude.{◌≡◌, ◌++◌};
-ghost use Rattle.lc_tool.specs.Lines.{memory_line, usage_line, absent_line, read_fault_line, long_line, fault_line, missing_line, slot_word, write_fault_line};
+ghost use Rattle.lc_tool.specs.Lines.{memory_line, usage_line, absent_line, read_fault_line, long_line, fault_line, missing_line, miss_line, miss_words, slot_word, write_fault_line};
 ghost use Rattle.lc_tool.specs.Noted.{Noted};
 ghost use Rattle.lc_tool.specs.Stopped.{NoReadCounted};
 
 use crate::fixed::append;
 use arrayvec::ArrayString;
 use itoa::Buffer;
+use lc_audit::Miss;
 use lc_desk::{Desk, Slot};
 use lc_job::Key;
 
@@ -91,6 +92,28 @@ pub fn note_fault<D: Desk>(desk: &mut D, name: &str, line: u32, kind: u8)
     append(&mut rest, digits.format(kind));
     append(&mut rest, "\n");
     note(desk, name, rest.as_str());
+}
+
+/// A recorded bound does not hold.
+#[tactic(auto, unfolding(crate::specs::Lines::miss_words))]
+pub fn note_miss<D: Desk>(desk: &mut D, miss: &Miss)
+    ensures noted { Noted (miss_line miss.now) (D.state desk.old) (D.state desk.new) }
+    ensures asked { (D.state desk.new).asked ≡ (D.state desk.old).asked }
+{
+    let mut digits = Buffer::new();
+    let mut rest = ArrayString::<192>::new();
+    append(&mut rest, " sample ");
+    append(&mut rest, digits.format(miss.sample));
+    append(&mut rest, " channel ");
+    append(&mut rest, digits.format(miss.channel.number()));
+    append(&mut rest, " plain ");
+    append(&mut rest, digits.format(miss.plain));
+    append(&mut rest, " est ");
+    append(&mut rest, digits.format(miss.est));
+    append(&mut rest, " bound ");
+    append(&mut rest, digits.format(miss.bound));
+    append(&mut rest, "\n");
+    note(desk, "audit:", rest.as_str());
 }
 
 fn word(slot: Slot) -> &'static str

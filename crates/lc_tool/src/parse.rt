@@ -4,8 +4,9 @@ ghost use Rattle.lc_light.specs.Lights.{AreLights};
 ghost use Rattle.lc_mtl.specs.Materials.{AreMaterials};
 ghost use Rattle.lc_obj.specs.Meshes.{IsMesh};
 ghost use Rattle.lc_job.specs.Jobs.{IsJob};
-ghost use Rattle.lc_tool.specs.Lines.{file_limit};
-ghost use Rattle.lc_tool.specs.Outcome.{job_text, library_text, lights_text, mesh_text};
+ghost use Rattle.lc_tool.specs.Audited.{IsRecord};
+ghost use Rattle.lc_tool.specs.Lines.{file_limit, record_limit};
+ghost use Rattle.lc_tool.specs.Outcome.{job_text, kept_text, library_text, lights_text, mesh_text};
 ghost use Rattle.lc_tool.specs.Stopped.{StoppedBy, Went};
 
 use crate::note::{note_fault, note_memory, note_missing};
@@ -15,6 +16,7 @@ use lc_job::{Job, JobStop, read_job};
 use lc_light::{LightStop, Lights, read_lights};
 use lc_mtl::{Materials, MtlStop, read_mtl};
 use lc_obj::{Mesh, ObjStop, read_obj};
+use lc_record::{Record, RecordStop, read_record};
 use std::alloc::Global;
 
 /// The job of a text. A refusal is told on Note.
@@ -115,6 +117,31 @@ pub fn parse_lights<D: Desk>(
         Err(LightStop::Fault { line, kind }) => {
             note_fault(desk, name, line, kind);
             Err(Stop::Faulty(Source::Lights))
+        }
+    }
+}
+
+/// The record of a text. A refusal is told on Note.
+pub fn parse_record<D: Desk>(
+    alloc: Global,
+    name: &str,
+    text: &[u8],
+    desk: &mut D,
+) -> Result<Record, Stop>
+    requires { length text.now ≤ record_limit }
+    ensures went { IfOk result (λ kept. Went (Some (kept_text name.now text.now)) kept (D.state desk.old) (D.state desk.new)) }
+    ensures valid { IfOk result IsRecord }
+    ensures stopped { IfErr result (λ stop. StoppedBy stop (Some (kept_text name.now text.now)) (D.state desk.old) (D.state desk.new)) }
+{
+    match read_record(alloc, text) {
+        Ok(kept) => Ok(kept),
+        Err(RecordStop::Memory) => {
+            note_memory(desk);
+            Err(Stop::Memory)
+        }
+        Err(RecordStop::Fault { line, kind }) => {
+            note_fault(desk, name, line, kind);
+            Err(Stop::Faulty(Source::Record))
         }
     }
 }

@@ -1,17 +1,19 @@
 // The call of the program.
-ghost use Rattle.std.specs.Prelude.{◌≡◌, ◌⊎◌, ◌≤◌, ℕ, None, Some, ◌↔◌, IfSome, IsTrue};
+ghost use Rattle.std.specs.Prelude.{◌≡◌, ◌⊎◌, ◌≤◌, ℕ, List as Items, None, Some, ◌↔◌, IfSome, IsTrue};
 ghost use Rattle.lc_desk.specs.declared.desk.Slot.{Slot};
 ghost use Rattle.lc_frame.specs.declared.stop.FrameStop.TheVariants as frame;
 ghost use Rattle.lc_tool.specs.declared.status.Source.{Source};
 ghost use Rattle.lc_tool.specs.declared.status.Stop.TheVariants as stop;
 ghost use Rattle.lc_tool.specs.declared.world.World.{World};
-ghost use Rattle.lc_tool.specs.Words.{make as make_words, command_of, texts};
+ghost use Rattle.lc_tool.specs.Words.{audit as audit_words, make as make_words, command_of, texts};
 ghost use Rattle.lc_tool.specs.Status.{source_code};
 ghost use Rattle.lc_tool.specs.Outcome.{outcome};
 ghost use Rattle.lc_tool.specs.Ends.{Runs, Counts, Does, Stops, Breaks, HasFailed, HasLine, SameOutputs, IsComplete, OpensOnly, no_faults};
 ghost use Rattle.lc_tool.specs.Probed.{Records};
+ghost use Rattle.lc_tool.specs.Audited.{AuditFails, AuditHolds, HasNoAuditFault, IsAuditOf, IsOwnRecord, KeepsFiles};
 ghost use Rattle.lc_tool.specs.Rendered.{AreCounted, AreFractions, AreNear, HasPicture, HasPlainPicture, HasRecord, HasSummary, HasWorld, IsMakeOf, IsPlainOf, IsRenderOf, LeavesParts, LeavesPlainPart, LeavesSummary, Renders};
 
+use crate::audit::audit;
 use crate::make::make;
 use crate::note::note_usage;
 use crate::plain::plain;
@@ -43,6 +45,7 @@ fn attempt<D: Desk, L: Ledger>(
         ) => probe(alloc, lights, place, direction, desk, steps),
         Some(Command::Render { job }) => render(alloc, job, desk, steps),
         Some(Command::Plain { job }) => plain(alloc, job, desk),
+        Some(Command::Audit { job, step }) => audit(alloc, job, step, desk),
         Some(Command::Make { number }) => make(alloc, number, desk, steps),
         None => {
             note_usage(desk);
@@ -99,6 +102,21 @@ pub fn run<D: Desk, L: Ledger>(
     ensures made { (number : ℕ) → command_of (texts words.now) ≡ Some (make_words number) →
         ¬ (result ≡ 7) × ¬ (result ≡ 8) × ¬ (result ≡ 10) }
 
+    // Where `audit` is done over a desk that tells its files, the file of the job's record is the text of a record with the
+    // job's header, and each line whose number the step divides holds by the sum over all lights. 11 comes only where one of
+    // these lines does not. Over the record that a render of the same files writes it is done, or there was no memory, unless a
+    // fault is counted. It writes neither of the two files.
+    ensures audit_yes { result ≡ 0 → (world : World) → (text : Items ℕ) →
+        (a : IsAuditOf (texts words.now) (D.state desk.old).held world text) →
+        AuditHolds a.step world text (D.state desk.old) (D.state desk.new) }
+    ensures audit_no { result ≡ 11 → (world : World) → (text : Items ℕ) →
+        (a : IsAuditOf (texts words.now) (D.state desk.old).held world text) → AuditFails a.step world text }
+    ensures audit_own { (world : World) → (text : Items ℕ) →
+        IsAuditOf (texts words.now) (D.state desk.old).held world text → IsOwnRecord world text →
+        HasNoAuditFault (D.state desk.old) (D.state desk.new) → (result ≡ 0) ⊎ (result ≡ 1) }
+    ensures audit_keeps { (name : Items ℕ) (step : ℕ) → command_of (texts words.now) ≡ Some (audit_words name step) →
+        KeepsFiles (D.state desk.old) (D.state desk.new) }
+
     // It reads no file but those of the outcome, in their order, and begins none but those that it writes.
     ensures opens { IfSome (outcome (texts words.now) (D.state desk.old).held)
         (OpensOnly (D.state desk.old) (D.state desk.new)) }
@@ -110,7 +128,8 @@ pub fn run<D: Desk, L: Ledger>(
     // 2 comes exactly where the words are no command.
     ensures usage { (result ≡ 2) ↔ (command_of (texts words.now) ≡ None) }
 
-    // 3 to 6 come only where the text is reached and has a fault, 7 and 10 only where the file is absent or too long and
+    // 3 to 6 and 12 come only where the text is reached and has a fault or is of another job, 11 only where the verdict on a
+    // record is reached and is no, 7 and 10 only where the file is absent or too long and
     // a count rose, 8 only where a count rose, for a file that is reached.
     ensures faulty { (text : Source) → result ≡ source_code text →
         Stops (texts words.now) (stop.Faulty text) (D.state desk.old) (D.state desk.new) }
@@ -120,6 +139,8 @@ pub fn run<D: Desk, L: Ledger>(
         Stops (texts words.now) stop.ReadFault (D.state desk.old) (D.state desk.new) }
     ensures long { result ≡ 10 →
         Stops (texts words.now) stop.Long (D.state desk.old) (D.state desk.new) }
+    ensures refuted { result ≡ 11 →
+        Stops (texts words.now) stop.Refuted (D.state desk.old) (D.state desk.new) }
 
     // 9 comes only where the count of a slot that the command writes rose. 1 is want of memory.
     ensures write_fault { result ≡ 9 → (slot : Slot)
@@ -128,7 +149,7 @@ pub fn run<D: Desk, L: Ledger>(
     ensures memory { result ≡ 1 →
         Stops (texts words.now) stop.Memory (D.state desk.old) (D.state desk.new)
         ⊎ Breaks (texts words.now) frame.Memory (D.state desk.old) (D.state desk.new) }
-    ensures only { result ≤ 10 }
+    ensures only { result ≤ 12 }
 
     // Each other status than 0 has its line on Note, and nothing is written before all is read.
     ensures noted { ¬ (result ≡ 0) → HasLine result (D.state desk.old) (D.state desk.new) }

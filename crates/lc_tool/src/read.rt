@@ -4,14 +4,14 @@ ghost use Rattle.lc_light.specs.Lights.{AreLights};
 ghost use Rattle.lc_mtl.specs.Materials.{AreMaterials};
 ghost use Rattle.lc_obj.specs.Meshes.{IsMesh};
 ghost use Rattle.lc_job.specs.Jobs.{IsJob};
+ghost use Rattle.lc_tool.specs.Audited.{IsRecord};
 ghost use Rattle.lc_tool.specs.Course.{told};
-ghost use Rattle.lc_tool.specs.Lines.{file_limit};
-ghost use Rattle.lc_tool.specs.Outcome.{beside as beside_name, job_of, libraries_of, library_of, lights_of, mesh_of, text_of};
+ghost use Rattle.lc_tool.specs.Outcome.{beside as beside_name, job_of, kept_of, libraries_of, library_of, lights_of, mesh_of, text_of};
 ghost use Rattle.lc_tool.specs.Stopped.{StoppedBy, Went};
 
 use crate::names::beside;
 use crate::note::{note_absent, note_long, note_memory, note_read_fault};
-use crate::parse::{parse_job, parse_library, parse_lights, parse_scene};
+use crate::parse::{parse_job, parse_library, parse_lights, parse_record, parse_scene};
 use crate::status::Stop;
 use lc_desk::{Desk, ReadStop};
 use lc_job::Job;
@@ -19,26 +19,35 @@ use lc_light::Lights;
 use lc_mtl::Materials;
 use lc_num::Name;
 use lc_obj::Mesh;
+use lc_record::Record;
 use std::alloc::Global;
 
 /// The most bytes of a file that is read, but of a record: 128 MiB.
-const LIMIT: u64 = 134_217_728;
+const FILE_LIMIT: u64 = 134_217_728;
 
-/// Reads a file. A refusal is told on Note.
-pub fn read_text<D: Desk>(alloc: Global, name: &str, desk: &mut D) -> Result<Vec<u8>, Stop>
-    ensures went { IfOk result (λ text. Went (told (text_of file_limit name.now) (D.state desk.old).held) text.items (D.state desk.old) (D.state desk.new)) }
-    ensures short { IfOk result (λ text. length text.items ≤ file_limit) }
-    ensures stopped { IfErr result (λ stop. StoppedBy stop (told (text_of file_limit name.now) (D.state desk.old).held) (D.state desk.old) (D.state desk.new)) }
+/// The most bytes of a record that is read: 512 MiB.
+const RECORD_LIMIT: u64 = 536_870_912;
+
+/// Reads a file of at most so many bytes. A refusal is told on Note.
+pub fn read_text<D: Desk>(
+    alloc: Global,
+    name: &str,
+    limit: u64,
+    desk: &mut D,
+) -> Result<Vec<u8>, Stop>
+    ensures went { IfOk result (λ text. Went (told (text_of limit name.now) (D.state desk.old).held) text.items (D.state desk.old) (D.state desk.new)) }
+    ensures short { IfOk result (λ text. length text.items ≤ limit) }
+    ensures stopped { IfErr result (λ stop. StoppedBy stop (told (text_of limit name.now) (D.state desk.old).held) (D.state desk.old) (D.state desk.new)) }
 {
     let mut text = Vec::new(alloc);
-    match desk.read(name, LIMIT, &mut text) {
+    match desk.read(name, limit, &mut text) {
         Ok(()) => Ok(text),
         Err(ReadStop::Absent) => {
             note_absent(desk, name);
             Err(Stop::Absent)
         }
         Err(ReadStop::Long) => {
-            note_long(desk, name, LIMIT);
+            note_long(desk, name, limit);
             Err(Stop::Long)
         }
         Err(ReadStop::Failed) => {
@@ -58,7 +67,7 @@ pub fn read_job_file<D: Desk>(alloc: Global, name: &str, desk: &mut D) -> Result
     ensures valid { IfOk result IsJob }
     ensures stopped { IfErr result (λ stop. StoppedBy stop (told (job_of name.now) (D.state desk.old).held) (D.state desk.old) (D.state desk.new)) }
 {
-    let text = read_text(alloc, name, desk)?;
+    let text = read_text(alloc, name, FILE_LIMIT, desk)?;
     parse_job(alloc, name, &text, desk)
 }
 
@@ -68,7 +77,7 @@ pub fn read_scene_file<D: Desk>(alloc: Global, name: &str, desk: &mut D) -> Resu
     ensures valid { IfOk result IsMesh }
     ensures stopped { IfErr result (λ stop. StoppedBy stop (told (mesh_of name.now) (D.state desk.old).held) (D.state desk.old) (D.state desk.new)) }
 {
-    let text = read_text(alloc, name, desk)?;
+    let text = read_text(alloc, name, FILE_LIMIT, desk)?;
     parse_scene(alloc, name, &text, desk)
 }
 
@@ -84,7 +93,7 @@ fn read_library<D: Desk>(
     ensures valid { AreMaterials materials.new.items }
     ensures stopped { IfErr result (λ stop. StoppedBy stop (told (library_of materials.old.items name.now) (D.state desk.old).held) (D.state desk.old) (D.state desk.new)) }
 {
-    let text = read_text(alloc, name, desk)?;
+    let text = read_text(alloc, name, FILE_LIMIT, desk)?;
     parse_library(alloc, name, &text, materials, desk)
 }
 
@@ -139,6 +148,16 @@ pub fn read_light_file<D: Desk>(
     ensures valid { IfOk result AreLights }
     ensures stopped { IfErr result (λ stop. StoppedBy stop (told (lights_of name.now seed) (D.state desk.old).held) (D.state desk.old) (D.state desk.new)) }
 {
-    let text = read_text(alloc, name, desk)?;
+    let text = read_text(alloc, name, FILE_LIMIT, desk)?;
     parse_lights(alloc, name, seed, &text, desk)
+}
+
+/// Reads the record of a file. A refusal is told on Note.
+pub fn read_record_file<D: Desk>(alloc: Global, name: &str, desk: &mut D) -> Result<Record, Stop>
+    ensures went { IfOk result (λ kept. Went (told (kept_of name.now) (D.state desk.old).held) kept (D.state desk.old) (D.state desk.new)) }
+    ensures valid { IfOk result IsRecord }
+    ensures stopped { IfErr result (λ stop. StoppedBy stop (told (kept_of name.now) (D.state desk.old).held) (D.state desk.old) (D.state desk.new)) }
+{
+    let text = read_text(alloc, name, RECORD_LIMIT, desk)?;
+    parse_record(alloc, name, &text, desk)
 }

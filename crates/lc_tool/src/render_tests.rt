@@ -1,18 +1,18 @@
 // Renders over a desk in memory.
-use crate::tests::serve;
+use crate::tests::{USAGE, serve};
 use lc_desk::{MemoryDesk, Slot};
 use lc_num::Memory;
 use std::alloc::{AllocGlobal, Global};
 use std::process::Abort;
 use std::test::Fail;
 
-const SCENE: &str = "v -1 -1 0\nv 1 -1 0\nv 0 1 0\nf 1 2 3\n";
+pub(crate) const SCENE: &str = "v -1 -1 0\nv 1 -1 0\nv 0 1 0\nf 1 2 3\n";
 
-const NAMES: &str = "scene s.obj\nlights l.txt\npicture p.ppm\nbounds b.lcb\n";
+pub(crate) const NAMES: &str = "scene s.obj\nlights l.txt\npicture p.ppm\nbounds b.lcb\n";
 
-const VIEW: &str = "eye 0 0 5\nat 0 0 0\nsize 1 1\n";
+pub(crate) const VIEW: &str = "eye 0 0 5\nat 0 0 0\nsize 1 1\n";
 
-const LIGHT: &str = "point 0 0 1.0016 1 1 1\n";
+pub(crate) const LIGHT: &str = "point 0 0 1.0016 1 1 1\n";
 
 const PICTURE: &[u8] = b"P6\n1 1\n255\n\xE4\xE4\xE4";
 
@@ -20,7 +20,7 @@ const RECORD: &[u8] =
     b"LCB 1 1 1 1 1000 20\n1 1 5242880000000000000000 5242880000000000000000 5242880000000000000000 0 0 0\n";
 
 /// A desk with a job of these names and this view, and with a scene and lights.
-fn desk_with(
+pub(crate) fn desk_with(
     alloc: Global,
     names: &str,
     view: &str,
@@ -50,7 +50,7 @@ fn expect_files(
 }
 
 /// Serves a desk whose job is refused before anything is written.
-fn expect_note(
+pub(crate) fn expect_note(
     rt: &(impl Abort + AllocGlobal),
     words: &[&str],
     desk: &mut MemoryDesk,
@@ -101,14 +101,15 @@ fn renders_the_bound_of_a_coarse_cut(rt: HostRuntime) -> Result<(), Fail> {
 const FIRST_RULE: &[u8] =
     b"LCB 1 1 1 1 1000 1000\n2 2 3355443200000000000000 3355443200000000000000 3355443200000000000000 0 0 0\n";
 
-const SECOND_RULE: &[u8] =
+pub(crate) const SECOND_RULE: &[u8] =
     b"LCB 2 1 1 1 1000 1000\n1 1 3355443200000000000000 3355443200000000000000 3355443200000000000000 3355443200000000000000 3355443200000000000000 3355443200000000000000\n";
+
+pub(crate) const DARK_AND_BRIGHT: &str = "point 0 0 1.0016 0 0 0\npoint 0 0 1.2516 1 1 1\n";
 
 // A light that gives nothing stands before one that gives all: what both can give is more than the estimate of the root, but
 // the estimate is more than what it leaves of that, so the second rule takes the root as it is.
 #[test]
 fn bounds_by_the_rule_of_the_job(rt: HostRuntime) -> Result<(), Fail> {
-    let lights = "point 0 0 1.0016 0 0 0\npoint 0 0 1.2516 1 1 1\n";
     let rows = [
         ("", FIRST_RULE),
         ("rule 1\n", FIRST_RULE),
@@ -116,7 +117,7 @@ fn bounds_by_the_rule_of_the_job(rt: HostRuntime) -> Result<(), Fail> {
     ];
     for (line, record) in rows {
         let view = format!(in rt.alloc(); "{VIEW}error 1000\n{line}")?;
-        let mut desk = desk_with(rt.alloc(), NAMES, &view, SCENE, lights)?;
+        let mut desk = desk_with(rt.alloc(), NAMES, &view, SCENE, DARK_AND_BRIGHT)?;
         expect_files(&rt, &mut desk, b"P6\n1 1\n255\n\xB6\xB6\xB6", record);
     }
     Ok(())
@@ -271,13 +272,7 @@ fn tells_that_a_job_was_not_read(rt: HostRuntime) -> Result<(), Fail> {
 #[test]
 fn renders_one_job(rt: HostRuntime) -> Result<(), Fail> {
     let mut desk = desk_with(rt.alloc(), NAMES, VIEW, SCENE, LIGHT)?;
-    expect_note(
-        &rt,
-        &["render"],
-        &mut desk,
-        2,
-        "usage: lightcuts probe LIGHTS X Y Z NX NY NZ | render JOB | plain JOB | audit JOB STEP | make N\n",
-    );
+    expect_note(&rt, &["render"], &mut desk, 2, USAGE);
     Ok(())
 }
 

@@ -11,6 +11,7 @@ pub enum Source {
     Scene,
     Library,
     Lights,
+    Record,
 }
 
 /// Why a run stops before anything is written.
@@ -21,6 +22,8 @@ pub enum Stop {
     Absent,
     ReadFault,
     Long,
+    /// A recorded bound does not hold.
+    Refuted,
 }
 
 /// How a run ends.
@@ -43,6 +46,7 @@ impl Source {
             Source::Scene => 4,
             Source::Library => 5,
             Source::Lights => 6,
+            Source::Record => 12,
         }
     }
 }
@@ -59,6 +63,7 @@ impl Stop {
             Stop::Absent => 7,
             Stop::ReadFault => 8,
             Stop::Long => 10,
+            Stop::Refuted => 11,
         }
     }
 }

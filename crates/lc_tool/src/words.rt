@@ -1,7 +1,7 @@
 // The words of the command line.
 ghost use Rattle.std.specs.Prelude.{◌≡◌, ◌≤◌, option_map, IfSome, unsigned_abs};
 ghost use Rattle.lc_scan.specs.Whole.{whole_of};
-ghost use Rattle.lc_tool.specs.Words.{command_of, probe_of, make_of, coordinate, vector_of, texts};
+ghost use Rattle.lc_tool.specs.Words.{command_of, audit_of, probe_of, make_of, coordinate, vector_of, texts};
 ghost use Rattle.lc_num.specs.Vectors.{Within};
 ghost use Rattle.lc_tool.specs.Meant.{meant, IsInRange};
 
@@ -25,6 +25,11 @@ pub enum Command<'a> {
     Plain {
         job: &'a str,
     },
+    /// The check of a job's record at each sample whose number the step divides.
+    Audit {
+        job: &'a str,
+        step: u64,
+    },
     /// The picture and the record of the scene that is made of a number.
     Make {
         number: u32,
@@ -33,6 +38,9 @@ pub enum Command<'a> {
 
 /// The greatest coordinate, 5000 in units of 1/10000.
 const MOST: u64 = 50_000_000;
+
+/// The greatest step of an audit.
+const LAST_STEP: u64 = 4_294_967_295;
 
 /// The greatest number that a scene is made of.
 const LAST_SCENE: u64 = 9999;
@@ -76,6 +84,17 @@ fn probe_command<'a>(
     })
 }
 
+/// The command `audit`, where its step is one.
+fn audit_command<'a>(job: &'a str, step: &str) -> Option<Command<'a>>
+    ensures value { option_map meant result ≡ audit_of job.now (whole_of step.now) }
+    ensures range { IfSome result IsInRange }
+{
+    match whole(step.as_bytes()) {
+        Ok(step) if 1 <= step && step <= LAST_STEP => Some(Command::Audit { job, step }),
+        _ => None,
+    }
+}
+
 /// The command `make`, where its number is one.
 fn make_command<'a>(number: &str) -> Option<Command<'a>>
     ensures value { option_map meant result ≡ make_of (whole_of number.now) }
@@ -100,6 +119,7 @@ pub fn read_words<'a>(words: &[&'a str]) -> Option<Command<'a>>
         }
         [word, job] if *word == "render" => Some(Command::Render { job }),
         [word, job] if *word == "plain" => Some(Command::Plain { job }),
+        [word, job, step] if *word == "audit" => audit_command(job, step),
         [word, number] if *word == "make" => make_command(number),
         _ => None,
     }

@@ -1,6 +1,6 @@
 use Rattle.std.proofs.Common.{◌≡◌, ◌≤◌, sym, ◌∙◌, subst, ◌⊎◌, arith}
 use Rattle.lc_tool.specs.Status.{code}
-use Rattle.lc_tool.specs.declared.status.Stop.TheVariants.{Faulty, Absent, ReadFault, Long}
+use Rattle.lc_tool.specs.declared.status.Stop.TheVariants.{Faulty, Absent, ReadFault, Long, Refuted}
 use Rattle.lc_tool.specs.Words.{command_of, texts}
 use Rattle.lc_tool.specs.Outcome.{course_of, status_of}
 use Rattle.lc_tool.specs.Ends.{HasLine, Runs}
@@ -8,6 +8,7 @@ use Rattle.lc_tool.proofs.Running.{by_stop, by_done, by_silent, by_failed, by_me
 use Rattle.lc_tool.proofs.Proper.{command_proper}
 use Rattle.lc_tool.proofs.Recording.{run_recorded}
 use Rattle.lc_tool.proofs.PlainRuns.{run_plain, run_plain_part}
+use Rattle.lc_tool.proofs.Auditing.{run_audit_keeps, run_audit_no, run_audit_own, run_audit_yes}
 use Rattle.lc_tool.proofs.Making.{make_never, make_summary, make_summary_part}
 use Rattle.lc_tool.proofs.Pictures.{run_counted, run_fractions, run_near, run_parts, run_picture, run_record, run_world}
 use Rattle.lc_tool.proofs.Rendering.{run_report}
@@ -72,6 +73,27 @@ returns-clause-made g c = λ number is.
     subst (λ n. ¬ (n ≡ 7) × ¬ (n ≡ 8) × ¬ (n ≡ 10)) (sym number_is)
     (make_never number c.attempt.result held (g.D.Desk.state c.args.desk.now) (g.D.Desk.state c.attempt.new.desk) runs)
 
+pub returns-clause-audit_yes : goal.returns-clause-audit_yes
+returns-clause-audit_yes g c = λ zero world text a.
+    run_audit_yes (texts c.args.words.now) c.attempt.result (g.D.Desk.state c.args.desk.now) (g.D.Desk.state c.attempt.new.desk) world text a
+    c.attempt.ensures.runs (sym c.code.ensures ∙ zero)
+
+pub returns-clause-audit_no : goal.returns-clause-audit_no
+returns-clause-audit_no g c = λ eleven world text a.
+    run_audit_no (texts c.args.words.now) c.attempt.result (g.D.Desk.state c.args.desk.now) (g.D.Desk.state c.attempt.new.desk) world text a
+    c.attempt.ensures.runs (sym c.code.ensures ∙ eleven)
+
+pub returns-clause-audit_own : goal.returns-clause-audit_own
+returns-clause-audit_own g c = λ world text a own faultless.
+    subst (λ n. (n ≡ 0) ⊎ (n ≡ 1)) (sym c.code.ensures)
+    (run_audit_own (texts c.args.words.now) c.attempt.result (g.D.Desk.state c.args.desk.now) (g.D.Desk.state c.attempt.new.desk) world text a
+    own faultless c.attempt.ensures.runs)
+
+pub returns-clause-audit_keeps : goal.returns-clause-audit_keeps
+returns-clause-audit_keeps g c = λ name step is.
+    run_audit_keeps (texts c.args.words.now) c.attempt.result (g.D.Desk.state c.args.desk.now) (g.D.Desk.state c.attempt.new.desk) name step is
+    c.attempt.ensures.runs
+
 pub returns-clause-opens : goal.returns-clause-opens
 returns-clause-opens g c = run_opens _ c.attempt.result _ _ _ c.attempt.ensures.runs
 
@@ -98,6 +120,9 @@ returns-clause-read_fault g c = λ e. by_stop _ c.attempt.result ReadFault _ _ _
 pub returns-clause-long : goal.returns-clause-long
 returns-clause-long g c = λ e. by_stop _ c.attempt.result Long _ _ _ c.attempt.ensures.runs (omega arith) (sym c.code.ensures ∙ e)
 
+pub returns-clause-refuted : goal.returns-clause-refuted
+returns-clause-refuted g c = λ e. by_stop _ c.attempt.result Refuted _ _ _ c.attempt.ensures.runs (omega arith) (sym c.code.ensures ∙ e)
+
 pub returns-clause-write_fault : goal.returns-clause-write_fault
 returns-clause-write_fault g c = λ e. by_failed _ c.attempt.result _ _ _ c.attempt.ensures.runs (sym c.code.ensures ∙ e)
 
@@ -105,7 +130,7 @@ pub returns-clause-memory : goal.returns-clause-memory
 returns-clause-memory g c = λ e. by_memory _ c.attempt.result _ _ _ c.attempt.ensures.runs (sym c.code.ensures ∙ e)
 
 pub returns-clause-only : goal.returns-clause-only
-returns-clause-only g c = subst (λ n. n ≤ 10) (sym c.code.ensures) (code_most c.attempt.result)
+returns-clause-only g c = subst (λ n. n ≤ 12) (sym c.code.ensures) (code_most c.attempt.result)
 
 pub returns-clause-noted : goal.returns-clause-noted
 returns-clause-noted g c = λ other.

@@ -60,7 +60,8 @@ case_of 'no words' 2 '' "$usage" "$program"
 case_of 'a word too few' 2 '' "$usage" "$program" probe l.txt 0 0 0 0 0
 case_of 'a number out of range' 2 '' "$usage" "$program" probe l.txt 0 0 5000.0001 0 0 1
 case_of 'a word that is no text' 2 '' "$usage" "$program" probe $'\xff' 0 0 0 0 0 1
-case_of 'a command that is not built yet' 2 '' "$usage" "$program" audit j.txt 1
+case_of 'an audit without a step' 2 '' "$usage" "$program" audit j.txt
+case_of 'an audit by a step of 0' 2 '' "$usage" "$program" audit j.txt 0
 case_of 'a faulty number' 6 '' 'faulty.txt: line 1: kind 2' probe faulty.txt
 case_of 'a missing file' 7 '' 'none.txt: absent' probe none.txt
 case_of 'a name without letters' 7 '' ': absent' probe ''
@@ -154,6 +155,41 @@ both() { "$program" render one.txt & "$program" render two.txt && wait $!; }
 case_of 'two renders at once' 0 '' '' both
 case_of 'the same picture of both' 0 '' '' cmp one.ppm two.ppm
 case_of 'the same record of both' 0 '' '' cmp one.lcb two.lcb
+
+# audits of records
+audit() { "$program" audit "$1" 1; }
+case_of 'the record of a render' 0 'audit yes 1' '' audit one.txt
+case_of 'the same picture after an audit' 0 '' '' cmp one.ppm two.ppm
+case_of 'the same record after an audit' 0 '' '' cmp one.lcb two.lcb
+mkdir audits
+printf 'v -1 -1 0\nv 1 -1 0\nv 0 1 0\nf 1 2 3\n' >audits/s.obj
+echo 'point 0 0 1.0016 1 1 1' >audits/lights.txt
+job audits/p.ppm audits/b.lcb | sed 's,^scene scene,scene audits,; s,^lights ,lights audits/,' >audit.txt
+lit=5242880000000000000000
+record() { printf 'LCB 1 1 1 1 1000 20\n1 1 %s %s %s 0 0 0\n' "$1" $lit $lit; }
+case_of 'no record' 7 '' 'audits/b.lcb: absent' audit audit.txt
+record $lit >audits/b.lcb
+case_of 'a record that holds' 0 'audit yes 1' '' audit audit.txt
+case_of 'a record by the greatest step' 0 'audit yes 1' '' "$program" audit audit.txt 4294967295
+audit_closed() { audit audit.txt >&-; }
+case_of 'standard output closed at an audit' 9 '' 'report: write fault' audit_closed
+audit_full() { audit audit.txt >/dev/full; }
+case_of 'standard output full at an audit' 9 '' 'report: write fault' audit_full
+over=5242880000000000000001
+record $over >audits/b.lcb
+case_of 'an estimate one unit off' 11 '' "audit: sample 0 channel 0 plain $lit est $over bound 0" audit audit.txt
+audit_mute() { audit audit.txt 2>&-; }
+case_of 'standard error closed at an estimate one unit off' 11 '' '' audit_mute
+record 0$lit >audits/b.lcb
+case_of 'a record with a faulty line' 12 '' 'audits/b.lcb: line 2: kind 2' audit audit.txt
+record $lit | sed 's/LCB 1/LCB 2/' >audits/b.lcb
+case_of 'a record of another rule' 12 '' 'audits/b.lcb: line 1: kind 4' audit audit.txt
+truncate -s 536870913 audits/b.lcb
+case_of 'a long record' 10 '' 'audits/b.lcb: longer than 536870912 bytes' audit audit.txt
+rm audits/b.lcb
+mkdir audits/b.lcb
+case_of 'a folder as the record' 8 '' 'audits/b.lcb: read fault' audit audit.txt
+case_of 'no picture of an audit' 1 '' '' test -e audits/p.ppm
 
 # made scenes
 made() { "$program" make "$1"; }

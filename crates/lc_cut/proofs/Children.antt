@@ -1,5 +1,5 @@
 -- What is found of the nodes of a tree, and which child takes over a factor.
-use Rattle.std.proofs.Common.{◌≡◌, ℕ, suc, ◌+◌, ◌*◌, ◌<◌, inl, inr, List, [], Option, None, Some, slice_get, refl, ap, sym, subst, ◌∙◌, arith, add-one, IsSomeAnd, MatchOption}
+use Rattle.std.proofs.Common.{◌≡◌, ℕ, suc, ◌+◌, ◌*◌, ◌<◌, inl, inr, List, [], Option, None, Some, slice_get, refl, ap, sym, subst, ◌∙◌, arith, add-one, IsSomeAnd}
 use Rattle.lc_num.specs.declared.channels.Rgb.{Rgb}
 use Rattle.lc_num.specs.declared.rules.Rule.{Rule}
 use Rattle.lc_geom.specs.declared.triangle.Tri.{Tri}
@@ -8,8 +8,8 @@ use Rattle.lc_terms.specs.Kind.{Meaning, factor_of}
 use Rattle.lc_terms.specs.declared.spot.Spot.{Spot}
 use Rattle.lc_tree.specs.Cover.{IsLeaderOf, power_sum}
 use Rattle.lc_tree.specs.Node.{Node, Kept, leaf, fork, leaf_count, node_count, node_at, node_of, count_of, kids_of, leader, members}
-use Rattle.lc_tree.specs.Rows.{IsLed, IsTree, IsTreeIf}
-use Rattle.lc_tree.proofs.NodeLaws.{at_room, counts, left_at, node_every, node_some, right_at, root_at}
+use Rattle.lc_tree.specs.Rows.{IsLed}
+use Rattle.lc_tree.proofs.NodeLaws.{at_room, counts, left_at, node_some, right_at, root_at}
 use Rattle.lc_rated.specs.declared.lighting.Found.{Found}
 use Rattle.lc_rated.specs.declared.lighting.Split.{Split}
 use Rattle.lc_rated.specs.Finding.{IsFound, IsRoot, IsSplit}
@@ -79,13 +79,6 @@ module _ {L : Type 0} where
   pub right_within : (root : Option (Node L)) (p left right : ℕ) → IsSomeAnd (node_of root p) (λ t. ◌≡◌ {A = Option (ℕ × ℕ)} (Some (left, right)) (kids_of p t)) → right < count_of root
   right_within root p left right h = let i = parent_of root p left right h in within_count root right i.b i.right_found
 
-  led_in : (valid : L → Type 0) (lights : List L) (root : Option (Node L)) (p : ℕ) (t : Node L) → MatchOption root (lights ≡ []) (λ r. IsTree valid lights r) → node_of root p ≡ Some t → IsLed t
-  led_in valid lights None p t h e = absurd cc
-  led_in valid lights (Some r) p t h e = node_every IsLed (λ n l a b q. (q.1, q.2)) r p t e h.led
-
-  led_at : (valid : L → Type 0) (v : Kept L) (p : ℕ) (t : Node L) → IsTreeIf valid v → node_of v.root p ≡ Some t → IsLed t
-  led_at valid v p t h e = led_in valid v.lights v.root p t h e
-
 module _ {L C : Type 0} (m : Meaning L C) (ts : List Tri) (spot : Spot) where
   factor_is : (root : Option (Node L)) (p : ℕ) (t : Node L) (f : Rgb) → node_of root p ≡ Some t → IsFactor m ts spot root p f → f ≡ factor_of m ts spot (leader t)
   factor_is root p t f e h = rw e at h.is
@@ -145,13 +138,13 @@ module _ {L C : Type 0} (m : Meaning L C) (ts : List Tri) (spot : Spot) where
       let given : f ≡ factor_of m ts spot (leader i.a) = factor_is m ts spot v.root p t f i.found hf ∙ ap (factor_of m ts spot) e in
       record { is = rw i.left_found given; within = hf.within }
 
-  pub right_keeps : (valid : L → Type 0) (v : Kept L) → IsTreeIf valid v → (p left right : ℕ) → IsSomeAnd (node_of v.root p) (λ t. ◌≡◌ {A = Option (ℕ × ℕ)} (Some (left, right)) (kids_of p t)) → (f : Rgb) → IsFactor m ts spot v.root p f → (x y : ℕ) → IsSomeAnd (node_of v.root left) (λ t. IsLeaderOf v.lights t x) → IsSomeAnd (node_of v.root p) (λ t. IsLeaderOf v.lights t y) → (x ≡ y → ⊥) → IsFactor m ts spot v.root right f
-  right_keeps valid v tree p left right h f hf x y hx hy differ =
+  pub right_keeps : (v : Kept L) (p left right : ℕ) → IsSomeAnd (node_of v.root p) (λ t. ◌≡◌ {A = Option (ℕ × ℕ)} (Some (left, right)) (kids_of p t)) → (f : Rgb) → IsFactor m ts spot v.root p f → (x y : ℕ) → IsSomeAnd (node_of v.root left) (λ t. IsLeaderOf v.lights t x) → IsSomeAnd (node_of v.root p) (λ t. IsLeaderOf v.lights t y) → IsSomeAnd (node_of v.root p) IsLed → (x ≡ y → ⊥) → IsFactor m ts spot v.root right f
+  right_keeps v p left right h f hf x y hx hy hl differ =
       let i : IsParent v.root p left right = parent_of v.root p left right h in
       let t : Node L = fork i.number i.light i.a i.b in
       let la : IsLeaderOf v.lights i.a x = rw i.left_found at hx in
       let lt : IsLeaderOf v.lights t y = rw i.found at hy in
-      let led : IsLed t = led_at valid v p t tree i.found in
+      let led : IsLed t = rw i.found at hl in
       let e : leader t ≡ leader i.b = elim led.0 [ inl l ↦ absurd (differ (la.is ∙ sym l.0 ∙ sym lt.is)) | inr r ↦ r.1 ] in
       let given : f ≡ factor_of m ts spot (leader i.b) = factor_is m ts spot v.root p t f i.found hf ∙ ap (factor_of m ts spot) e in
       record { is = rw i.right_found given; within = hf.within }

@@ -27,11 +27,13 @@ pub struct Forest {
 }
 
 impl Forest {
-    /// The trees of lists of lights by halving, with the words of streams 0, 1 and 2 of the generator of `rand_pcg`.
+    /// The trees of lists of lights by halving, with the words of streams 0, 1 and 2 of the generator of `rand_pcg`. Each
+    /// light stands in exactly one leaf of the tree of its kind.
     pub fn build(alloc: Global, lights: &Lights, seed: u64) -> Result<Forest, Memory>
         requires { AreLights lights.now }
         ensures value { IfOk result (λ forest. forest ≡ forest_of seed lights.now) }
         ensures few { IfOk result (λ forest. light_count (lights_of forest) ≤ 65536) }
+        ensures forest { IfOk result IsForest }
     {
         let omni = Tree::build(alloc, lights.omni.as_slice(), seed, 0)?;
         let oriented = Tree::build(alloc, lights.oriented.as_slice(), seed, 1)?;

@@ -5,7 +5,6 @@ ghost use Rattle.lc_terms.specs.Channels.{by_power};
 ghost use Rattle.lc_terms.specs.Spot.{IsSpot};
 ghost use Rattle.lc_tree.specs.Node.{count_of, kids_of, leader, members, node_of};
 ghost use Rattle.lc_tree.specs.Cover.{power_sum};
-ghost use Rattle.lc_tree.specs.Rows.{IsTreeIf};
 ghost use Rattle.lc_rated.specs.Finding.{IsRoot, IsSplit};
 ghost use Rattle.lc_cut.specs.Lit.{bound_of, light_by, lit, lit_root, node_bound, IsFactor};
 
@@ -136,13 +135,6 @@ fn factor<K: Kind, T: Triangles, L: Ledger>(
     eval::<K, T, L>(spot, &leading(tree, node), scene, steps)
 }
 
-/// What a tree keeps, which it says beside its count.
-fn known<K: Kind>(tree: &Tree<K>)
-    ensures { IsTreeIf K.meaning.valid_light tree.now }
-{
-    tree.count();
-}
-
 /// The factors of the children of a node that has this factor. That of the child with the node's representative is taken
 /// over, and the representative of the other is evaluated, which counts one step.
 fn factors<K: Kind, T: Triangles, L: Ledger>(
@@ -163,7 +155,6 @@ fn factors<K: Kind, T: Triangles, L: Ledger>(
     ensures right { IsFactor K.meaning (T.list scene.now) spot.now tree.now.root right result.1 }
     ensures steps { steps.new ≡ steps.old + 1 }
 {
-    known(tree);
     if tree.leader(left) == tree.leader(node) {
         (kept, factor(tree, right, spot, scene, steps))
     } else {

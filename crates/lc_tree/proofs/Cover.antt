@@ -139,6 +139,10 @@ module _ {L C : Type 0} where
       let is : r.leader ≡ leader_number t = ap (λ (r : Row C). r.leader) h.is ∙ leader_row m.one m.join t in
       some_below lights r.leader (leader t) (ap (slice_get lights) is ∙ numbered_leader lights t h.numbered)
 
+  pub row_led : (m : Meaning L C) (lights : List L) (p : ℕ) (r : Row C) (o : Option (Node L)) → IsSomeAnd o (λ t. IsRowOf m.valid_light m.one m.join lights p t r) → IsSomeAnd o IsLed
+  row_led m lights p r None h = h
+  row_led m lights p r (Some t) h = h.led
+
   tree_of_laid : (valid : L → Type 0) (one : L → C) (join : C → C → C) (lights : List L) (rows : List (Row C)) (r : Option (Node L)) → MatchOption r ((rows ≡ []) × (lights ≡ [])) (λ t. IsLaid valid one join lights rows t) → MatchOption r (lights ≡ []) (λ t. IsTree valid lights t)
   tree_of_laid valid one join lights rows None h = h.1
   tree_of_laid valid one join lights rows (Some t) h = h.tree

@@ -3,7 +3,7 @@ ghost use Rattle.std.specs.Prelude.{◌≡◌, ◌<◌, ◌≤◌, ◌^◌, All,
 ghost use Rattle.lc_tree.specs.Build.{tree_of, weight_of};
 ghost use Rattle.lc_tree.specs.Cover.{IsClumpOf, IsLeaderOf};
 ghost use Rattle.lc_tree.specs.Node.{count_of, kids_of, node_of, numbers};
-ghost use Rattle.lc_tree.specs.Rows.{IsRowOf, IsTreeIf};
+ghost use Rattle.lc_tree.specs.Rows.{IsLed, IsRowOf, IsTreeIf};
 ghost use Rattle.lc_words.specs.Words.{stream_word};
 
 use crate::build::{clump_weight, rows_of_tree};
@@ -37,7 +37,8 @@ impl<K: Kind> Model for Tree<K> {
 }
 
 impl<K: Kind> Tree<K> {
-    /// The tree of at most 65,536 lights by halving, with the words of a stream of a seed.
+    /// The tree of at most 65,536 lights by halving, with the words of a stream of a seed. Each light of the list stands in
+    /// exactly one leaf.
     pub fn build(
         alloc: Global,
         lights: &[K::Light],
@@ -46,7 +47,8 @@ impl<K: Kind> Tree<K> {
     ) -> Result<Tree<K>, Memory>
         requires few { length lights.now ≤ 65536 }
         requires valid { All K.meaning.valid_light lights.now }
-        ensures { IfOk result (λ t. t ≡ record { lights = lights.now; root = tree_of K.meaning (stream_word seed stream) lights.now }) }
+        ensures value { IfOk result (λ t. t ≡ record { lights = lights.now; root = tree_of K.meaning (stream_word seed stream) lights.now }) }
+        ensures tree { IfOk result (IsTreeIf K.meaning.valid_light) }
     {
         let rows = rows_of_tree::<K>(alloc, lights, seed, stream)?;
         let leaves = leaves_of(alloc, &rows)?;
@@ -98,11 +100,12 @@ impl<K: Kind> Tree<K> {
         self.row(node).clump
     }
 
-    /// The number of the light that stands for a node.
+    /// The number of the light that stands for a node: for an inner node that of one of its children.
     pub fn leader(&self, node: u32) -> u32
         requires { node < count_of self.now.root }
         ensures leader { IsSomeAnd (node_of self.now.root node) (λ t. IsLeaderOf self.now.lights t result) }
         ensures below { result < length self.now.lights }
+        ensures led { IsSomeAnd (node_of self.now.root node) IsLed }
     {
         self.row(node).leader
     }

@@ -16,4 +16,4 @@ factor-requires-else-leader-clause-node g c = left_within c.args.tree.now.root c
 
 pub returns-else-leader-clause-right : goal.returns-else-leader-clause-right
 returns-else-leader-clause-right g c =
-    right_keeps g.K.Kind.meaning (g.T.Triangles.list c.args.scene.now) c.args.spot.now g.K.Kind.meaning.valid_light c.args.tree.now c.known.ensures c.args.node c.args.left c.args.right c.requires.kids c.args.kept c.requires.kept c.leader.result c.leader-2.result c.leader.ensures.leader c.leader-2.ensures.leader c.if-leader.false
+    right_keeps g.K.Kind.meaning (g.T.Triangles.list c.args.scene.now) c.args.spot.now c.args.tree.now c.args.node c.args.left c.args.right c.requires.kids c.args.kept c.requires.kept c.leader.result c.leader-2.result c.leader.ensures.leader c.leader-2.ensures.leader c.leader-2.ensures.led c.if-leader.false

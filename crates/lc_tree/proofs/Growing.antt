@@ -9,7 +9,8 @@ use Rattle.lc_tree.specs.declared.row.Row.{Row}
 use Rattle.lc_tree.specs.declared.numbered.Numbered.{Numbered}
 use Rattle.lc_tree.specs.Node.{Node, first, leaf, fork, leaf_count, leader, leader_number, numbers, clump_of}
 use Rattle.lc_tree.specs.Rows.{rows_of, row_of, read_rows, read-rows_of, IsTree, IsLaidIf, IsNumbered}
-use Rattle.lc_tree.specs.Build.{takes_left, power_weight, weight_of, forked, halved, in_order, comes_before, longest_axis, numbered, tree_of}
+use Rattle.lc_tree.specs.Build.{takes_left, power_weight, weight_of, forked, halved, in_order, comes_before, numbered, tree_of}
+use Rattle.lc_tree.specs.Extents.{longest_axis}
 use Rattle.lc_tree.specs.Grown.{Grown, StandsIn}
 use Rattle.lc_tree.proofs.NodeLaws.{counts, length-rows_of, numbered_leader}
 use Rattle.lc_tree.proofs.Numbering.{length_numbered, numbers_numbered}

@@ -8,7 +8,8 @@ use Rattle.lc_terms.specs.Kind.{Meaning}
 use Rattle.lc_tree.specs.declared.numbered.Numbered.{Numbered}
 use Rattle.lc_tree.specs.Node.{Node, leaf, fork, leader, leader_number, numbers}
 use Rattle.lc_tree.specs.Rows.{IsTreeIf, IsNumbered, IsLed}
-use Rattle.lc_tree.specs.Build.{takes_left, weight_of, forked, halved, put_in_order, in_order, comes_before, longest_axis, numbered, tree_of}
+use Rattle.lc_tree.specs.Build.{takes_left, weight_of, forked, halved, put_in_order, in_order, comes_before, numbered, tree_of}
+use Rattle.lc_tree.specs.Extents.{longest_axis}
 use Rattle.lc_tree.specs.Grown.{StandsIn}
 use Rattle.lc_tree.proofs.NodeLaws.{numbered_leader}
 use Rattle.lc_tree.proofs.Growing.{of_front, of_back}

@@ -1,5 +1,6 @@
 pub mod Cover
 pub mod Drawing
+pub mod Extents
 pub mod Growing
 pub mod Halving
 pub mod Listing

@@ -16,7 +16,8 @@ use Rattle.lc_num.specs.declared.vectors.Vec3.{Vec3}
 use Rattle.lc_terms.specs.Kind.{Meaning}
 use Rattle.lc_tree.specs.declared.axis.Axis.{Axis}
 use Rattle.lc_tree.specs.declared.numbered.Numbered.{Numbered}
-use Rattle.lc_tree.specs.Build.{coordinate, comes_before, in_order, longest_axis, numbered}
+use Rattle.lc_tree.specs.Build.{comes_before, in_order, numbered}
+use Rattle.lc_tree.specs.Extents.{coordinate, longest_axis}
 use Rattle.lc_tree.specs.Grown.{IsValid, StandsIn}
 use Rattle.lc_tree.proofs.Sorting.{sorted_is}
 

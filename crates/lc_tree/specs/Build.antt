@@ -1,43 +1,15 @@
 -- The tree of a list of lights by halving.
-use Rattle.std.specs.Prelude.{ℕ, zero, suc, ◌+◌, ◌*◌, ◌/◌, ◌^◌, ◌==◌, nat_lt, ◌||◌, ◌&&◌, Bool, if◌then◌else◌, List, [], ◌∷◌, length, take, drop, map, Option, None, Some, ℤ}
-use Rattle.std.specs.Int.RustNames.{int_le}
-use Rattle.std.specs.List.{fold, enumerate_from}
+use Rattle.std.specs.Prelude.{ℕ, zero, suc, ◌+◌, ◌*◌, ◌/◌, ◌^◌, ◌==◌, nat_lt, ◌||◌, Bool, if◌then◌else◌, List, [], ◌∷◌, length, take, drop, map, Option, None, Some}
+use Rattle.std.specs.List.{enumerate_from}
 use Rattle.std.specs.Ordering.{int_cmp, nat_cmp, ordering_then, is_lt}
-use Rattle.lc_num.specs.Vectors.{difference, greater, lesser, zero_vector}
 use Rattle.lc_num.specs.declared.channels.Power.{Power}
-use Rattle.lc_num.specs.declared.vectors.Vec3.{Vec3}
 use Rattle.lc_terms.specs.Kind.{Meaning}
 use Rattle.lc_tree.specs.Node.{Node, leaf, fork, leader, leader_number, clump_of}
+use Rattle.lc_tree.specs.Extents.{coordinate, longest_axis}
 use Rattle.lc_tree.specs.declared.axis.Axis.{Axis}
-use Rattle.lc_tree.specs.declared.axis.Axis.TheVariants.{X, Y, Z}
 use Rattle.lc_tree.specs.declared.numbered.Numbered.{Numbered}
 
-abbrev pub coordinate : Axis → Vec3 → ℤ
-coordinate X v = v.x
-coordinate Y v = v.y
-coordinate Z v = v.z
-
--- the axis of the longest extent, ties going to x, then y
-abbrev pub longest : Vec3 → Axis
-longest v = if int_le v.y v.x && int_le v.z v.x then X else if int_le v.z v.y then Y else Z
-
 module _ {L : Type 0} where
-  -- the greatest and the least coordinates among a place and those of lights
-  abbrev pub greatest : Vec3 → List (Numbered L) → Vec3
-  greatest place es = fold (λ most e. greater most e.place) place es
-
-  abbrev pub least : Vec3 → List (Numbered L) → Vec3
-  least place es = fold (λ most e. lesser most e.place) place es
-
-  -- on each axis the greatest less the least coordinate of the lights' places
-  abbrev pub extents : List (Numbered L) → Vec3
-  extents [] = zero_vector
-  extents (e ∷ es) = difference (greatest e.place es) (least e.place es)
-
-  -- the axis on which the lights extend the longest
-  abbrev pub longest_axis : List (Numbered L) → Axis
-  longest_axis es = longest (extents es)
-
   -- by coordinate on an axis, then by light number
   abbrev pub comes_before : Axis → Numbered L → Numbered L → Bool
   comes_before axis a b =

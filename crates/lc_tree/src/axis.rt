@@ -1,6 +1,6 @@
 // The axes of space.
 ghost use Rattle.std.specs.Prelude.{◌≡◌};
-ghost use Rattle.lc_tree.specs.Build.{coordinate};
+ghost use Rattle.lc_tree.specs.Extents.{coordinate};
 
 use lc_num::Vec3;
 

@@ -2,7 +2,8 @@
 ghost use Rattle.std.specs.Prelude.{◌≡◌, ◌<◌, All, length, IsPermutation};
 ghost use Rattle.std.specs.List.Sorted.{IsSortedBy};
 ghost use Rattle.lc_num.specs.Vectors.{Within};
-ghost use Rattle.lc_tree.specs.Build.{comes_before, extents, longest, longest_axis};
+ghost use Rattle.lc_tree.specs.Build.{comes_before};
+ghost use Rattle.lc_tree.specs.Extents.{longest, longest_axis, AreExtents};
 
 use crate::axis::Axis;
 use lc_num::{Vec3, difference, greater, lesser};
@@ -19,7 +20,7 @@ pub(crate) struct Numbered<L> {
 fn extents<L: Copy>(lights: &[Numbered<L>]) -> Vec3
     requires some { 0 < length lights.now }
     requires places { All (λ e. Within 50_000_000 e.place) lights.now }
-    ensures { result ≡ extents lights.now }
+    ensures { AreExtents lights.now result }
 {
     let mut least = lights[0].place;
     let mut most = least;

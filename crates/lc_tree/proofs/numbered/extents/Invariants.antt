@@ -1,6 +1,6 @@
 use Rattle.std.proofs.Common.{◌≡◌, take}
 use Rattle.lc_num.specs.Vectors.{Within}
-use Rattle.lc_tree.specs.Build.{greatest, least}
+use Rattle.lc_tree.proofs.Extents.{greatest, least}
 use Rattle.lc_tree.proofs.numbered.extents.Given as goal
 
 abbrev pub invariant-loop-light : goal.invariant-loop-light

@@ -1,6 +1,6 @@
 use Rattle.std.proofs.Common.{◌≡◌, rules}
 use Rattle.std.proofs.lemmas.Fn.{always_returns_same}
-use Rattle.lc_tree.specs.Build.{coordinate}
+use Rattle.lc_tree.specs.Extents.{coordinate}
 use Rattle.lc_tree.proofs.numbered.sort_along.Goals as goal
 
 pub returns-clause-sorted : goal.returns-clause-sorted

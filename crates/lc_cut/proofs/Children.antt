@@ -1,5 +1,6 @@
 -- What is found of the nodes of a tree, and which child takes over a factor.
 use Rattle.std.proofs.Common.{◌≡◌, ℕ, suc, ◌+◌, ◌*◌, ◌<◌, inl, inr, List, [], Option, None, Some, slice_get, refl, ap, sym, subst, ◌∙◌, arith, add-one, IsSomeAnd}
+use Rattle.std.proofs.lemmas.Option.{same_Some}
 use Rattle.lc_num.specs.declared.channels.Rgb.{Rgb}
 use Rattle.lc_num.specs.declared.rules.Rule.{Rule}
 use Rattle.lc_geom.specs.declared.triangle.Tri.{Tri}
@@ -18,12 +19,9 @@ use Rattle.lc_rated.specs.LitTrees as lits
 use Rattle.lc_cut.specs.Lit.{light_at, light_by, lit, lit_root, IsFactor}
 use Rattle.lc_cut.proofs.LitLaws.{leaves_lit}
 
-some_same : {A : Type 0} {x y : A} → Some x ≡ Some y → x ≡ y
-some_same e = cc
-
 pair_same : {a b c d : ℕ} → ◌≡◌ {A = Option (ℕ × ℕ)} (Some (a, b)) (Some (c, d)) → (a ≡ c) × (b ≡ d)
 pair_same {a} {b} {c} {d} h =
-    let e : ◌≡◌ {A = ℕ × ℕ} (a, b) (c, d) = some_same h in
+    let e : ◌≡◌ {A = ℕ × ℕ} (a, b) (c, d) = same_Some _ _ h in
     (ap (λ (p : ℕ × ℕ). p.0) e, ap (λ (p : ℕ × ℕ). p.1) e)
 
 module _ {L : Type 0} where
@@ -134,7 +132,7 @@ module _ {L C : Type 0} (m : Meaning L C) (ts : List Tri) (spot : Spot) where
       let t : Node L = fork i.number i.light i.a i.b in
       let la : IsLeaderOf v.lights i.a x = rw i.left_found at hx in
       let lt : IsLeaderOf v.lights t y = rw i.found at hy in
-      let e : leader t ≡ leader i.a = some_same (sym lt.light ∙ ap (slice_get v.lights) (sym same) ∙ la.light) in
+      let e : leader t ≡ leader i.a = same_Some _ _ (sym lt.light ∙ ap (slice_get v.lights) (sym same) ∙ la.light) in
       let given : f ≡ factor_of m ts spot (leader i.a) = factor_is m ts spot v.root p t f i.found hf ∙ ap (factor_of m ts spot) e in
       record { is = rw i.left_found given; within = hf.within }
 

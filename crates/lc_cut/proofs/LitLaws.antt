@@ -1,5 +1,5 @@
 -- The lit tree of a light tree: its estimates and full sums are within its bounds, and all of them are limited.
-use Rattle.std.proofs.Common.{◌≡◌, ℕ, ◌+◌, ◌*◌, ◌≤◌, ◌^◌, List, [], ◌∷◌, sum_by, refl, ap, ◌∙◌, arith, All}
+use Rattle.std.proofs.Common.{◌≡◌, ℕ, ◌+◌, ◌*◌, ◌≤◌, ◌^◌, List, [], ◌∷◌, sum_by, refl, ap, sym, ◌∙◌, arith, All}
 use Rattle.std.proofs.Math.Nat.{mul-le-mul_right, mul-le-mul}
 use Rattle.std.proofs.lemmas.List.Sums.{sum_by-cons, sum_by-append}
 use Rattle.std.proofs.lemmas.List.Elements.{All-head, All-tail, All-weaker, All-contains}
@@ -16,7 +16,7 @@ use Rattle.lc_terms.specs.declared.spot.Spot.{Spot}
 use Rattle.lc_tree.specs.Node.{Node, leaf, fork, leader, members, clump_of, leaf_count}
 use Rattle.lc_tree.specs.Rows.{IsNumbered, IsLed}
 use Rattle.lc_tree.specs.Cover.{power_sum}
-use Rattle.lc_tree.proofs.Cover.{Holds, holds, leads_member}
+use Rattle.lc_tree.proofs.Cover.{Holds, holds, leads_member, powers, sum_of_one}
 use Rattle.lc_rated.specs.LitTrees.{full_of, IsBounded, IsLimited, red, green, blue, most_of_leaf}
 use Rattle.lc_rated.specs.LitTrees as lits
 use Rattle.lc_cut.specs.Contribution.{contribution}
@@ -54,17 +54,10 @@ bound_limited rule.Two est top most he ht = omega arith
 pub bound_sharper : (est top least : ℕ) → est ≤ least → least ≤ top → channel_bound rule.Two est least ≤ channel_bound rule.One est top
 bound_sharper est top least he ht = omega arith
 
-powers : (r g b r' g' b' : ℕ) → r ≡ r' → g ≡ g' → b ≡ b' → ◌≡◌ {A = Power} (record { r = r; g = g; b = b }) (record { r = r'; g = g'; b = b' })
-powers r g b r' g' b' e f h = cc
-
 module _ {L C : Type 0} where
   power_sum-cons : (m : Meaning L C) (l : L) (ls : List L) → power_sum m (l ∷ ls) ≡ power_plus (m.power l) (power_sum m ls)
   power_sum-cons m l ls =
       powers _ _ _ _ _ _ (sum_by-cons (λ k. (m.power k).r) l ls) (sum_by-cons (λ k. (m.power k).g) l ls) (sum_by-cons (λ k. (m.power k).b) l ls)
-
-  power_sum-one : (m : Meaning L C) (l : L) → power_sum m (l ∷ []) ≡ m.power l
-  power_sum-one m l =
-      powers _ _ _ _ _ _ (omega (arith, sum_by-cons (λ k. (m.power k).r) l [])) (omega (arith, sum_by-cons (λ k. (m.power k).g) l [])) (omega (arith, sum_by-cons (λ k. (m.power k).b) l []))
 
   pub leaves_lit : (m : Meaning L C) (ts : List Tri) (spot : Spot) (r : Rule) (t : Node L) → lits.leaf_count (lit m ts spot r t) ≡ leaf_count t
   leaves_lit m ts spot r (leaf n l) = refl
@@ -73,7 +66,7 @@ module _ {L C : Type 0} where
   -- the full sum of a lit tree is that of its members
   pub full_members : (c : Rgb → ℕ) (m : Meaning L C) (ts : List Tri) (spot : Spot) (r : Rule) (t : Node L) → full_of c (lit m ts spot r t) ≡ sum_by (λ l. c (contribution m ts spot l)) (members t)
   full_members c m ts spot r (leaf n l) =
-      let e : c (by_power (factor_of m ts spot l) (power_sum m (l ∷ []))) ≡ c (by_power (factor_of m ts spot l) (m.power l)) = ap (λ p. c (by_power (factor_of m ts spot l) p)) (power_sum-one m l) in
+      let e : c (by_power (factor_of m ts spot l) (power_sum m (l ∷ []))) ≡ c (by_power (factor_of m ts spot l) (m.power l)) = ap (λ p. c (by_power (factor_of m ts spot l) p)) (sym (sum_of_one m l)) in
       omega (arith, e, sum_by-cons (λ k. c (contribution m ts spot k)) l [])
   full_members c m ts spot r (fork n l a b) =
       omega (arith, full_members c m ts spot r a, full_members c m ts spot r b, sum_by-append (λ k. c (contribution m ts spot k)) (members a) (members b))

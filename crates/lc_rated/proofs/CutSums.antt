@@ -2,7 +2,7 @@
 use Rattle.std.proofs.Common.{◌≡◌, ℕ, zero, suc, ◌+◌, ◌*◌, ◌≤◌, arith, List, [], ◌∷◌, ◌++◌, sum_by, refl, true, false, ap, sym, subst, ◌∙◌, ◌==◌, cond, Option, None, Some, slice_get}
 use Rattle.std.specs.Prelude.{IfSome}
 use Rattle.std.proofs.lemmas.List.Sums.{sum_by-append, sum_by-cons}
-use Rattle.std.proofs.lemmas.Option.{slice_get_within}
+use Rattle.std.proofs.lemmas.Option.{same_Some, slice_get_within}
 use Rattle.lc_num.specs.declared.channels.Rgb.{Rgb}
 use Rattle.lc_rated.specs.declared.light.NodeLight.{NodeLight}
 use Rattle.lc_rated.specs.declared.kind.LightKind.{LightKind}
@@ -63,12 +63,9 @@ pub EachNode-append : (Q : Placed → Type 0) (xs ys : List Placed) → EachNode
 EachNode-append Q [] ys hx hy = hy
 EachNode-append Q (x ∷ xs) ys hx hy = (hx.0, EachNode-append Q xs ys hx.1 hy)
 
-some_injective : {A : Type 0} {x y : A} → Some x ≡ Some y → x ≡ y
-some_injective e = cc
-
 pub EachNode-at : (Q : Placed → Type 0) (cut : List Placed) (j : ℕ) (p : Placed) → EachNode Q cut → slice_get cut j ≡ Some p → Q p
 EachNode-at Q [] j p h at = absurd (omega (arith, slice_get_within [] j p at))
-EachNode-at Q (x ∷ xs) zero p h at = subst Q (let e : Some x ≡ Some p = at in some_injective e) h.0
+EachNode-at Q (x ∷ xs) zero p h at = subst Q (let e : Some x ≡ Some p = at in same_Some _ _ e) h.0
 EachNode-at Q (x ∷ xs) (suc j) p h at = EachNode-at Q xs j p h.1 at
 
 -- a fact goes down from a node to its children

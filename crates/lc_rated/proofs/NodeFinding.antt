@@ -1,6 +1,7 @@
 -- Each node of each cut is found in the trees by its kind and number.
 use Rattle.std.proofs.Common.{◌≡◌, ℕ, zero, suc, ◌+◌, ◌-◌, ◌*◌, ◌<◌, ◌≤◌, nat_lt, cond, true, false, ◌++◌, Option, None, Some, refl, ap, subst, ◌∙◌, arith, add-one}
 use Rattle.std.proofs.lemmas.Bool.Decides.{nat_tests}
+use Rattle.std.proofs.lemmas.Option.{none-some, same_Some}
 use Rattle.lc_num.specs.declared.channels.Rgb.{Rgb}
 use Rattle.lc_rated.specs.declared.light.NodeLight.{NodeLight}
 use Rattle.lc_rated.specs.declared.kind.LightKind.{LightKind}
@@ -8,12 +9,6 @@ use Rattle.lc_rated.specs.declared.kind.LightKind.TheVariants as kind
 use Rattle.lc_rated.specs.LitTrees.{LitTree, leaf, fork, leaf_count, node_count, Trees, tree_of, node_at, node_of, find}
 use Rattle.lc_rated.specs.Cuts.{Placed, parts_of, root_of, roots_of, cut_at, leaf_sum, EachNode}
 use Rattle.lc_rated.proofs.CutSums.{EachNode-append, each_cut_at, root_sum}
-
-some_same : {A : Type 0} {x y : A} → Some x ≡ Some y → x ≡ y
-some_same e = cc
-
-none_some : {A : Type 0} {x : A} → (P : Type 0) → None ≡ Some x → P
-none_some P e = cc
 
 leaf_fork : {q : Rgb} {r : NodeLight} {a b : LitTree} → Some (leaf q) ≡ Some (fork r a b) → ⊥
 leaf_fork e = cc
@@ -31,9 +26,9 @@ node_some (leaf r) = omega arith
 node_some (fork r a b) = omega arith
 
 at_room : (t : LitTree) (p : ℕ) (s : LitTree) → node_at t p ≡ Some s → p + node_count s ≤ node_count t
-at_room (leaf r) zero s e = let same : leaf r ≡ s = some_same e in subst (λ u. 0 + node_count u ≤ 1) same (omega arith)
-at_room (leaf r) (suc p) s e = none_some (suc p + node_count s ≤ 1) e
-at_room (fork r a b) zero s e = let same : fork r a b ≡ s = some_same e in subst (λ u. 0 + node_count u ≤ 1 + (node_count a + node_count b)) same (omega arith)
+at_room (leaf r) zero s e = let same : leaf r ≡ s = same_Some _ _ e in subst (λ u. 0 + node_count u ≤ 1) same (omega arith)
+at_room (leaf r) (suc p) s e = absurd (none-some _ e)
+at_room (fork r a b) zero s e = let same : fork r a b ≡ s = same_Some _ _ e in subst (λ u. 0 + node_count u ≤ 1 + (node_count a + node_count b)) same (omega arith)
 at_room (fork r a b) (suc p) s e =
     elim (nat_lt p (node_count a)) as (λ v. nat_lt p (node_count a) ≡ v → cond v (node_at a p) (node_at b (p - node_count a)) ≡ Some s → suc p + node_count s ≤ 1 + (node_count a + node_count b)) [
       | true ↦ (λ q f. omega (arith, at_room a p s f))
@@ -51,7 +46,7 @@ in_right r a b p =
 
 left_at : (t : LitTree) (p : ℕ) (r : NodeLight) (a b : LitTree) → node_at t p ≡ Some (fork r a b) → node_at t (suc p) ≡ Some a
 left_at (leaf q) zero r a b e = absurd (leaf_fork e)
-left_at (leaf q) (suc p) r a b e = none_some (None ≡ Some a) e
+left_at (leaf q) (suc p) r a b e = absurd (none-some _ e)
 left_at (fork q c d) zero r a b e = let same : c ≡ a = cc in in_left q c d 0 (node_some c) ∙ root_at c ∙ ap Some same
 left_at (fork q c d) (suc p) r a b e =
     elim (nat_lt p (node_count c)) as (λ v. nat_lt p (node_count c) ≡ v → cond v (node_at c p) (node_at d (p - node_count c)) ≡ Some (fork r a b) → node_at (fork q c d) (suc (suc p)) ≡ Some a) [
@@ -64,7 +59,7 @@ left_at (fork q c d) (suc p) r a b e =
 
 right_at : (t : LitTree) (p : ℕ) (r : NodeLight) (a b : LitTree) → node_at t p ≡ Some (fork r a b) → node_at t (suc (p + node_count a)) ≡ Some b
 right_at (leaf q) zero r a b e = absurd (leaf_fork e)
-right_at (leaf q) (suc p) r a b e = none_some (None ≡ Some b) e
+right_at (leaf q) (suc p) r a b e = absurd (none-some _ e)
 right_at (fork q c d) zero r a b e =
     let same : c ≡ a = cc in
     let other : d ≡ b = cc in
@@ -84,11 +79,11 @@ right_at (fork q c d) (suc p) r a b e =
 
 -- the children of a node that is found are found at their numbers
 pub left_of : (o : Option LitTree) (p : ℕ) (r : NodeLight) (a b : LitTree) → node_of o p ≡ Some (fork r a b) → node_of o (p + 1) ≡ Some a
-left_of None p r a b h = none_some (None ≡ Some a) h
+left_of None p r a b h = absurd (none-some _ h)
 left_of (Some t) p r a b h = rw add-one (left_at t p r a b h)
 
 pub right_of : (o : Option LitTree) (p : ℕ) (r : NodeLight) (a b : LitTree) → node_of o p ≡ Some (fork r a b) → node_of o (p + 2 * leaf_count a) ≡ Some b
-right_of None p r a b h = none_some (None ≡ Some b) h
+right_of None p r a b h = absurd (none-some _ h)
 right_of (Some t) p r a b h =
     let e : p + 2 * leaf_count a ≡ suc (p + node_count a) = omega (arith, counts a) in
     ap (node_at t) e ∙ right_at t p r a b h
@@ -112,7 +107,7 @@ cut_in trees k =
     (EachNode-append (IsIn trees) (root_of kind.Oriented trees.oriented) (root_of kind.Sun trees.sun) (root_in trees kind.Oriented trees.oriented refl) (root_in trees kind.Sun trees.sun refl)))
 
 found_in : (trees : Trees) (k : LightKind) (n : ℕ) (o : Option LitTree) (t : LitTree) → leaf_sum (roots_of trees) ≤ 65536 → tree_of trees k ≡ o → node_of o n ≡ Some t → n < 131072
-found_in trees k n None t few is h = none_some (n < 131072) h
+found_in trees k n None t few is h = absurd (none-some _ h)
 found_in trees k n (Some r) t few is h = omega (arith, at_room r n t h, node_some t, counts r, root_sum leaf_count trees k r is, few)
 
 -- the numbers of nodes are limited

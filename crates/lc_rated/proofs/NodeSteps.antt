@@ -5,7 +5,7 @@ use Rattle.std.proofs.lemmas.List.{map-append, take-map, drop-map}
 use Rattle.std.proofs.lemmas.List.Elements.{All-contains}
 use Rattle.std.proofs.lemmas.List.Sorted.{IsPermutation-sym, All-permutation, Contains-permutation}
 use Rattle.std.proofs.lemmas.List.Sums.{sum_by-cons}
-use Rattle.std.proofs.lemmas.Option.{get_or_from_slice_get, slice_get_within}
+use Rattle.std.proofs.lemmas.Option.{same_Some, get_or_from_slice_get, slice_get_within}
 use Rattle.lc_num.specs.declared.channels.Rgb.{Rgb}
 use Rattle.lc_heap.specs.Order.{comes_before, IsFirstOf}
 use Rattle.lc_heap.specs.declared.entry.Entry.{Entry}
@@ -19,16 +19,13 @@ use Rattle.lc_rated.proofs.CutLimits.{totals_small}
 use Rattle.lc_rated.proofs.CutOrder.{cut_in_order}
 use Rattle.lc_rated.proofs.NodeFinding.{IsIn, cut_in, left_of, right_of}
 
-pub some_injective : {A : Type 0} {x y : A} → Some x ≡ Some y → x ≡ y
-some_injective e = cc
-
 pub length-map : {X Y : Type 0} (f : X → Y) (xs : List X) → length (map f xs) ≡ length xs
 length-map f [] = refl
 length-map f (x ∷ xs) = ap suc (length-map f xs)
 
 pub get_map : {X Y : Type 0} (f : X → Y) (xs : List X) (j : ℕ) (x : X) → slice_get xs j ≡ Some x → slice_get (map f xs) j ≡ Some (f x)
 get_map f [] j x at = absurd (omega (arith, slice_get_within [] j x at))
-get_map f (y ∷ ys) zero x at = ap (λ z. Some (f z)) (some_injective at)
+get_map f (y ∷ ys) zero x at = ap (λ z. Some (f z)) (same_Some _ _ at)
 get_map f (y ∷ ys) (suc j) x at = get_map f ys j x at
 
 get_some : {A : Type 0} → (xs : List A) (i : ℕ) → i < length xs → (x : A) × (slice_get xs i ≡ Some x)
@@ -39,7 +36,7 @@ get_some (x ∷ xs) (suc i) h = get_some xs i (omega arith)
 replaced_at : (key : ℕ) (cut : List Placed) (b : ℕ) (p : Placed) → slice_get cut b ≡ Some p → key_of p ≡ key → ((j : ℕ) (q : Placed) → j < b → slice_get cut j ≡ Some q → key_of q ≡ key → ⊥) → replaced key cut ≡ take b cut ++ (parts_of p.kind p.node p.tree ++ drop (b + 1) cut)
 replaced_at key [] b p at same before = absurd (omega (arith, slice_get_within [] b p at))
 replaced_at key (x ∷ xs) zero p at same before =
-    let e : x ≡ p = some_injective at in
+    let e : x ≡ p = same_Some _ _ at in
     let k : key_of x ≡ key = ap key_of e ∙ same in
     let hit : (key_of x == key) ≡ true = grind (arith, nat_tests) in
     subst (λ (q : Placed). cond (key_of x == key) (parts_of x.kind x.node x.tree ++ xs) (x ∷ replaced key xs) ≡ parts_of q.kind q.node q.tree ++ xs) e (rw hit refl)
@@ -52,7 +49,7 @@ replaced_at key (x ∷ xs) (suc b) p at same before =
 key_below : (cut : List Placed) (b : ℕ) (p : Placed) → slice_get cut b ≡ Some p → key_of p ≤ greatest_key cut
 key_below [] b p at = absurd (omega (arith, slice_get_within [] b p at))
 key_below (x ∷ xs) zero p at =
-    let e : x ≡ p = some_injective at in
+    let e : x ≡ p = same_Some _ _ at in
     omega (arith, ap key_of e)
 key_below (x ∷ xs) (suc b) p at = omega (arith, key_below xs b p at)
 
@@ -68,7 +65,7 @@ order_at : (cut : List Placed) (j i : ℕ) (q p : Placed) → IsInOrder cut → 
 order_at [] j i q p h lt at_q at_p = absurd (omega (arith, slice_get_within [] j q at_q))
 order_at (x ∷ xs) j zero q p h lt at_q at_p = absurd (omega arith)
 order_at (x ∷ xs) zero (suc i) q p h lt at_q at_p =
-    let e : x ≡ q = some_injective at_q in
+    let e : x ≡ q = same_Some _ _ at_q in
     subst (λ (y : Placed). IsBefore y p) e (EachNode-at (IsBefore x) xs i p h.0 at_p)
 order_at (x ∷ xs) (suc j) (suc i) q p h lt at_q at_p = order_at xs j i q p h.1 (omega arith) at_q at_p
 
@@ -193,7 +190,7 @@ step_of trees k es e kind some same has first known =
 sum_around : (f : Placed → ℕ) (cut : List Placed) (at : ℕ) (p x y : Placed) → slice_get cut at ≡ Some p → (sum_by f (take at cut ++ (x ∷ y ∷ drop (at + 1) cut)) + f p ≡ sum_by f cut + (f x + f y)) × (f p ≤ sum_by f cut)
 sum_around f [] at p x y here = absurd (omega (arith, slice_get_within [] at p here))
 sum_around f (q ∷ qs) zero p x y here =
-    let same : q ≡ p = some_injective here in
+    let same : q ≡ p = same_Some _ _ here in
     (omega (arith, ap f same, sum_by-cons f x (y ∷ qs), sum_by-cons f y qs, sum_by-cons f q qs), omega (arith, ap f same, sum_by-cons f q qs))
 sum_around f (q ∷ qs) (suc at) p x y here =
     let d : drop (suc at + 1) (q ∷ qs) ≡ drop (at + 1) qs = rw (add-one, add-one) refl in

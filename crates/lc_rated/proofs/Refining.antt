@@ -2,7 +2,7 @@
 use Rattle.std.proofs.Common.{◌≡◌, ℕ, zero, suc, ◌+◌, ◌-◌, ◌*◌, ◌<◌, ◌≤◌, ◌^◌, List, [], ◌∷◌, ◌++◌, map, length, take, drop, set, slice_get, Option, None, Some, Contains, IsPermutation, refl, ap, sym, subst, ◌∙◌, arith, add-one}
 use Rattle.std.specs.Prelude.{IsSome, IsSomeAnd}
 use Rattle.std.proofs.lemmas.List.Sorted.{length_permutation}
-use Rattle.std.proofs.lemmas.Option.{slice_get_within}
+use Rattle.std.proofs.lemmas.Option.{none-some, same_Some, slice_get_within}
 use Rattle.lc_num.specs.declared.channels.Rgb.{Rgb}
 use Rattle.lc_heap.specs.Order.{IsFirstOf}
 use Rattle.lc_heap.specs.declared.entry.Entry.{Entry}
@@ -18,18 +18,15 @@ use Rattle.lc_rated.proofs.CutSums.{EachNode-at}
 use Rattle.lc_rated.proofs.CutOrder.{cut_in_order}
 use Rattle.lc_rated.proofs.Permuting.{IsPermutation-two}
 use Rattle.lc_rated.proofs.NodeFinding.{found_within}
-use Rattle.lc_rated.proofs.NodeSteps.{Step, placed, step_of, some_injective, map_around, get_map, can_move_est, can_move_bound, keys_small, moved_est, moved_bound, first_same}
+use Rattle.lc_rated.proofs.NodeSteps.{Step, placed, step_of, map_around, get_map, can_move_est, can_move_bound, keys_small, moved_est, moved_bound, first_same}
 use Rattle.lc_rated.proofs.Holding.{Differ, each_around, passed_on, kept_other, kept_left, kept_right, place_within}
-
-none_some : {A : Type 0} {x : A} → None ≡ Some x → ⊥
-none_some e = cc
 
 is_found : (o : Option LitTree) (t : LitTree) → o ≡ Some t → IsSome o
 is_found o t h = rw h refl
 
 around : {A : Type 0} (xs : List A) (i : ℕ) (x : A) → slice_get xs i ≡ Some x → xs ≡ take i xs ++ x ∷ drop (i + 1) xs
-around [] i x h = absurd (none_some h)
-around (y ∷ ys) zero x h = let e : y ≡ x = some_injective h in ap (λ z. z ∷ ys) e
+around [] i x h = absurd (none-some _ h)
+around (y ∷ ys) zero x h = let e : y ≡ x = same_Some _ _ h in ap (λ z. z ∷ ys) e
 around (y ∷ ys) (suc i) x h =
     let d : drop (suc i + 1) (y ∷ ys) ≡ drop (i + 1) ys = rw (add-one, add-one) refl in
     rw d (ap (λ zs. y ∷ zs) (around ys i x h))
@@ -76,18 +73,18 @@ module _ {K : Type 0} {keeps : LightKind → ℕ → K → Type 0} {trees : Tree
     has_node = node_found
 
     pub has_slot : None ≡ slot_of nodes kind e.node → ⊥
-    has_slot h = none_some (h ∙ mine.at)
+    has_slot h = none-some _ (h ∙ mine.at)
 
     -- the slot that was read
     slot_is : (slot : ℕ) → Some slot ≡ slot_of nodes kind e.node → mine.slot ≡ slot
-    slot_is slot h = some_injective (sym mine.at ∙ sym h)
+    slot_is slot h = same_Some _ _ (sym mine.at ∙ sym h)
 
     pub has_kept : {slot : ℕ} → Some slot ≡ slot_of nodes kind e.node → None ≡ slice_get nodes.slots slot → ⊥
-    has_kept {slot} h n = none_some (n ∙ ap (slice_get nodes.slots) (sym (slot_is slot h)) ∙ mine.is)
+    has_kept {slot} h n = none-some _ (n ∙ ap (slice_get nodes.slots) (sym (slot_is slot h)) ∙ mine.is)
 
     module _ {slot : ℕ} (hs : Some slot ≡ slot_of nodes kind e.node) {held : Slot K} (hh : Some held ≡ slice_get nodes.slots slot) where
       held_is : mine.held ≡ held
-      held_is = some_injective (sym mine.is ∙ ap (slice_get nodes.slots) (slot_is slot hs) ∙ sym hh)
+      held_is = same_Some _ _ (sym mine.is ∙ ap (slice_get nodes.slots) (slot_is slot hs) ∙ sym hh)
 
       pub slot_within : slot < length nodes.slots
       slot_within = slice_get_within nodes.slots slot held (sym hh)

@@ -3,6 +3,7 @@ use Rattle.std.proofs.Common.{◌≡◌, ℕ, zero, suc, ◌+◌, ◌<◌, ◌�
 use Rattle.std.specs.Prelude.{Contains}
 use Rattle.std.proofs.lemmas.List.Elements.{All-nil, All-cons, All-append, All-weaker, All-get_or, Contains-append_left, Contains-append_right}
 use Rattle.std.proofs.lemmas.List.Sums.{sum_by-append, sum_by-cons}
+use Rattle.std.proofs.lemmas.Option.{none-some}
 use Rattle.lc_num.specs.declared.channels.Power.{Power}
 use Rattle.lc_terms.specs.Kind.{Meaning, Laws}
 use Rattle.lc_terms.specs.Channels.{power_plus}
@@ -11,17 +12,14 @@ use Rattle.lc_tree.specs.Build.{power_weight, weight_of}
 use Rattle.lc_tree.specs.Cover.{power_sum, IsClumpOf, IsLeaderOf}
 use Rattle.lc_tree.specs.Node.{Node, Kept, leaf, fork, leaf_count, leader, leader_number, members, clump_of}
 use Rattle.lc_tree.specs.Rows.{row_of, IsNumbered, IsLed, IsRowOf, IsTree, IsTreeIf, IsLaid, IsLaidIf, read_rows}
-use Rattle.lc_tree.proofs.NodeLaws.{counts, numbered_leader}
+use Rattle.lc_tree.proofs.NodeLaws.{clump_row, counts, leader_row, numbered_leader}
 
-powers : (r g b r' g' b' : ℕ) → r ≡ r' → g ≡ g' → b ≡ b' → ◌≡◌ {A = Power} (record { r = r; g = g; b = b }) (record { r = r'; g = g'; b = b' })
+pub powers : (r g b r' g' b' : ℕ) → r ≡ r' → g ≡ g' → b ≡ b' → ◌≡◌ {A = Power} (record { r = r; g = g; b = b }) (record { r = r'; g = g'; b = b' })
 powers r g b r' g' b' e f h = cc
-
-none_same : {A : Type 0} {x : A} → (P : Type 0) → None ≡ Some x → P
-none_same P e = cc
 
 -- what is in the list at a number is valid
 pub valid_at : {L : Type 0} (valid : L → Type 0) (lights : List L) (n : ℕ) (l : L) → All valid lights → slice_get lights n ≡ Some l → valid l
-valid_at valid [] n l h e = none_same (valid l) e
+valid_at valid [] n l h e = absurd (none-some _ e)
 valid_at valid (x ∷ xs) zero l h e =
     let same : x ≡ l = cc in
     subst valid same (All-get_or valid (x ∷ xs) 0 x (omega arith) h)
@@ -41,7 +39,7 @@ module _ {L : Type 0} where
       h.0
 
   some_below : (lights : List L) (n : ℕ) (l : L) → slice_get lights n ≡ Some l → n < length lights
-  some_below [] n l e = none_same (n < 0) e
+  some_below [] n l e = absurd (none-some _ e)
   some_below (x ∷ xs) zero l e = omega arith
   some_below (x ∷ xs) (suc n) l e = omega (arith, some_below xs n l e)
 
@@ -63,7 +61,7 @@ module _ {L C : Type 0} where
   sum_of_both m ls ks =
       powers _ _ _ _ _ _ (sym (sum_by-append (λ l. (m.power l).r) ls ks)) (sym (sum_by-append (λ l. (m.power l).g) ls ks)) (sym (sum_by-append (λ l. (m.power l).b) ls ks))
 
-  sum_of_one : (m : Meaning L C) (l : L) → m.power l ≡ power_sum m (l ∷ [])
+  pub sum_of_one : (m : Meaning L C) (l : L) → m.power l ≡ power_sum m (l ∷ [])
   sum_of_one m l = powers _ _ _ _ _ _ (omega (arith, sum_by-cons (λ l. (m.power l).r) l [])) (omega (arith, sum_by-cons (λ l. (m.power l).g) l [])) (omega (arith, sum_by-cons (λ l. (m.power l).b) l []))
 
   pub holds : (m : Meaning L C) → Laws m → (lights : List L) → All m.valid_light lights → (t : Node L) → IsNumbered lights t → leaf_count t ≤ 65536 → Holds m t (clump_of m.one m.join t)
@@ -88,14 +86,6 @@ module _ {L C : Type 0} where
             (All-weaker (λ k. m.valid_light k × m.covers cb k) (λ k. m.valid_light k × m.covers (m.join ca cb) k) (λ k h. (h.0, laws.join_covers ca cb k ha.valid hb.valid h.0 (inr h.1))) (members b) hb.covers);
         total = laws.join_total ca cb ha.valid hb.valid ∙ ap₂ power_plus ha.total hb.total ∙ sum_of_both m (members a) (members b);
       }
-
-  clump_row : (one : L → C) (join : C → C → C) (t : Node L) → (row_of one join t).clump ≡ clump_of one join t
-  clump_row one join (leaf n l) = refl
-  clump_row one join (fork n l a b) = refl
-
-  leader_row : (one : L → C) (join : C → C → C) (t : Node L) → (row_of one join t).leader ≡ leader_number t
-  leader_row one join (leaf n l) = refl
-  leader_row one join (fork n l a b) = refl
 
   row_holds : (m : Meaning L C) → Laws m → (lights : List L) (p : ℕ) (t : Node L) (r : Row C) → IsRowOf m.valid_light m.one m.join lights p t r → (r.clump ≡ clump_of m.one m.join t) × Holds m t r.clump
   row_holds m laws lights p t r h =

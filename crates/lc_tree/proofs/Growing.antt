@@ -12,7 +12,7 @@ use Rattle.lc_tree.specs.Rows.{rows_of, row_of, read_rows, read-rows_of, IsTree,
 use Rattle.lc_tree.specs.Build.{takes_left, power_weight, weight_of, forked, halved, in_order, comes_before, numbered, tree_of}
 use Rattle.lc_tree.specs.Extents.{longest_axis}
 use Rattle.lc_tree.specs.Grown.{Grown, StandsIn}
-use Rattle.lc_tree.proofs.NodeLaws.{counts, length-rows_of, numbered_leader}
+use Rattle.lc_tree.proofs.NodeLaws.{clump_row, counts, leader_row, length-rows_of, numbered_leader}
 use Rattle.lc_tree.proofs.Numbering.{length_numbered, numbers_numbered}
 
 set_after : {A : Type 0} (xs ys : List A) (x y : A) → slice_set ((xs ++ (x ∷ [])) ++ ys) (length xs) y ≡ xs ++ (y ∷ ys)
@@ -30,14 +30,6 @@ pub of_back : {A : Type 0} (P : A → Type 0) (n : ℕ) (xs ys back : List A) �
 of_back P n xs ys back moved e h = subst (All P) (sym e) (All-drop P n ys (All-permutation P xs ys moved h))
 
 module _ {L C : Type 0} where
-  clump_row : (one : L → C) (join : C → C → C) (t : Node L) → (row_of one join t).clump ≡ clump_of one join t
-  clump_row one join (leaf n l) = refl
-  clump_row one join (fork n l a b) = refl
-
-  leader_row : (one : L → C) (join : C → C → C) (t : Node L) → (row_of one join t).leader ≡ leader_number t
-  leader_row one join (leaf n l) = refl
-  leader_row one join (fork n l a b) = refl
-
   halved_leaf : (m : Meaning L C) (word : ℕ → ℕ) (p : ℕ) (e : Numbered L) (fuel : ℕ) → length (e ∷ []) ≤ fuel → halved m word fuel p (e ∷ []) ≡ Some (leaf e.number e.light)
   halved_leaf m word p e zero h = absurd (omega arith)
   halved_leaf m word p e (suc fuel) h = refl

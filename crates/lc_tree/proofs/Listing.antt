@@ -5,16 +5,11 @@ use Rattle.std.proofs.lemmas.List.{append_assoc, append-nil, get_or_default, map
 use Rattle.std.proofs.Math.Seq.{take-append_seam}
 use Rattle.std.proofs.lemmas.List.Elements.{filter-append}
 use Rattle.std.proofs.lemmas.Bool.Decides.{nat_tests}
+use Rattle.std.proofs.lemmas.Option.{none-some, same_Some}
 use Rattle.lc_tree.specs.declared.row.Row.{Row}
 use Rattle.lc_tree.specs.Node.{Node, Kept, leaf, fork, leaf_count, node_count, node_at, node_of, count_of, numbers}
 use Rattle.lc_tree.specs.Rows.{leaf_numbers, read_rows, rows_of, row_of, IsLaid, IsLaidIf, IsListed, IsRowOf, leaves_positive}
 use Rattle.lc_tree.proofs.NodeLaws.{at_within, length_numbers, length-rows_of}
-
-some_same : {A : Type 0} {x y : A} → Some x ≡ Some y → x ≡ y
-some_same e = cc
-
-none_some : {A : Type 0} {x : A} → (P : Type 0) → None ≡ Some x → P
-none_some P e = cc
 
 module _ {C : Type 0} where
   pub leaf_numbers-append : (xs ys : List (Row C)) → leaf_numbers (xs ++ ys) ≡ leaf_numbers xs ++ leaf_numbers ys
@@ -42,9 +37,9 @@ module _ {L C : Type 0} (one : L → C) (join : C → C → C) where
   standing_root t s e = record { before = []; after = []; rows = ap (rows_of one join) e ∙ sym (append-nil (rows_of one join s)); place = refl }
 
   standing : (t : Node L) (p : ℕ) (s : Node L) → node_at t p ≡ Some s → Standing t p s
-  standing (leaf n l) zero s e = standing_root (leaf n l) s (some_same e)
-  standing (leaf n l) (suc p) s e = none_some (Standing (leaf n l) (suc p) s) e
-  standing (fork n l a b) zero s e = standing_root (fork n l a b) s (some_same e)
+  standing (leaf n l) zero s e = standing_root (leaf n l) s (same_Some _ _ e)
+  standing (leaf n l) (suc p) s e = absurd (none-some _ e)
+  standing (fork n l a b) zero s e = standing_root (fork n l a b) s (same_Some _ _ e)
   standing (fork n l a b) (suc p) s e =
       let row = row_of one join (fork n l a b) in
       elim (nat_lt p (node_count a)) as (λ v. nat_lt p (node_count a) ≡ v → cond v (node_at a p) (node_at b (p - node_count a)) ≡ Some s → Standing (fork n l a b) (suc p) s) [

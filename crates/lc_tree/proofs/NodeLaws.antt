@@ -3,17 +3,11 @@ use Rattle.std.proofs.Common.{◌≡◌, ℕ, zero, suc, ◌+◌, ◌-◌, ◌*�
 use Rattle.std.specs.List.{range_with_len}
 use Rattle.std.proofs.lemmas.List.Sorted.{length_permutation}
 use Rattle.std.proofs.lemmas.List.FromFn.{length-range_with_len}
-use Rattle.std.proofs.lemmas.Option.{slice_get-get_or}
+use Rattle.std.proofs.lemmas.Option.{none-some, same_Some, slice_get-get_or}
 use Rattle.std.proofs.lemmas.Bool.Decides.{nat_tests}
 use Rattle.lc_tree.specs.declared.row.Row.{Row}
-use Rattle.lc_tree.specs.Node.{Node, Kept, kids_of, leaf, fork, leaf_count, node_count, node_at, node_of, count_of, leader, leader_number, numbers}
+use Rattle.lc_tree.specs.Node.{Node, Kept, kids_of, leaf, fork, leaf_count, node_count, node_at, node_of, count_of, clump_of, leader, leader_number, numbers}
 use Rattle.lc_tree.specs.Rows.{rows_of, row_of, read_rows, leaves_positive, IsLaidIf, IsLaid, IsTree, IsRowOf, IsNumbered, IsLed}
-
-some_injective : {A : Type 0} {x y : A} → Some x ≡ Some y → x ≡ y
-some_injective e = cc
-
-none_some : {A : Type 0} {x : A} → (P : Type 0) → None ≡ Some x → P
-none_some P e = cc
 
 get_left : {A : Type 0} → (xs ys : List A) (i : ℕ) → i < length xs → slice_get (xs ++ ys) i ≡ slice_get xs i
 get_left [] ys i h = absurd (omega arith)
@@ -40,9 +34,9 @@ module _ {L : Type 0} where
 
   -- what holds of the root and goes down to children holds of each node
   pub node_every : (Q : Node L → Type 0) → ((n : ℕ) (l : L) (a b : Node L) → Q (fork n l a b) → Q a × Q b) → (t : Node L) (p : ℕ) (s : Node L) → node_at t p ≡ Some s → Q t → Q s
-  node_every Q down (leaf n l) zero s e h = subst Q (some_injective e) h
-  node_every Q down (leaf n l) (suc p) s e h = none_some (Q s) e
-  node_every Q down (fork n l a b) zero s e h = subst Q (some_injective e) h
+  node_every Q down (leaf n l) zero s e h = subst Q (same_Some _ _ e) h
+  node_every Q down (leaf n l) (suc p) s e h = absurd (none-some _ e)
+  node_every Q down (fork n l a b) zero s e h = subst Q (same_Some _ _ e) h
   node_every Q down (fork n l a b) (suc p) s e h =
       elim (nat_lt p (node_count a)) as (λ v. cond v (node_at a p) (node_at b (p - node_count a)) ≡ Some s → Q s) [
         | true ↦ (λ f. node_every Q down a p s f (down n l a b h).0)
@@ -62,9 +56,9 @@ module _ {L : Type 0} where
 
   -- the nodes below a node have the numbers from its own on
   pub at_room : (t : Node L) (p : ℕ) (s : Node L) → node_at t p ≡ Some s → p + node_count s ≤ node_count t
-  at_room (leaf n l) zero s e = let same : leaf n l ≡ s = some_injective e in subst (λ u. 0 + node_count u ≤ 1) same (omega arith)
-  at_room (leaf n l) (suc p) s e = none_some (suc p + node_count s ≤ 1) e
-  at_room (fork n l a b) zero s e = let same : fork n l a b ≡ s = some_injective e in subst (λ u. 0 + node_count u ≤ 1 + (node_count a + node_count b)) same (omega arith)
+  at_room (leaf n l) zero s e = let same : leaf n l ≡ s = same_Some _ _ e in subst (λ u. 0 + node_count u ≤ 1) same (omega arith)
+  at_room (leaf n l) (suc p) s e = absurd (none-some _ e)
+  at_room (fork n l a b) zero s e = let same : fork n l a b ≡ s = same_Some _ _ e in subst (λ u. 0 + node_count u ≤ 1 + (node_count a + node_count b)) same (omega arith)
   at_room (fork n l a b) (suc p) s e =
       elim (nat_lt p (node_count a)) as (λ v. nat_lt p (node_count a) ≡ v → cond v (node_at a p) (node_at b (p - node_count a)) ≡ Some s → suc p + node_count s ≤ 1 + (node_count a + node_count b)) [
         | true ↦ (λ q f. omega (arith, at_room a p s f))
@@ -88,7 +82,7 @@ module _ {L : Type 0} where
   -- the children of a node have their numbers
   pub left_at : (t : Node L) (p : ℕ) (n : ℕ) (l : L) (a b : Node L) → node_at t p ≡ Some (fork n l a b) → node_at t (suc p) ≡ Some a
   left_at (leaf m k) zero n l a b e = absurd (leaf_fork e)
-  left_at (leaf m k) (suc p) n l a b e = none_some (None ≡ Some a) e
+  left_at (leaf m k) (suc p) n l a b e = absurd (none-some _ e)
   left_at (fork m k c d) zero n l a b e =
       let same : c ≡ a = cc in
       in_left m k c d 0 (node_some c) ∙ root_at c ∙ ap Some same
@@ -103,7 +97,7 @@ module _ {L : Type 0} where
 
   pub right_at : (t : Node L) (p : ℕ) (n : ℕ) (l : L) (a b : Node L) → node_at t p ≡ Some (fork n l a b) → node_at t (suc (p + node_count a)) ≡ Some b
   right_at (leaf m k) zero n l a b e = absurd (leaf_fork e)
-  right_at (leaf m k) (suc p) n l a b e = none_some (None ≡ Some b) e
+  right_at (leaf m k) (suc p) n l a b e = absurd (none-some _ e)
   right_at (fork m k c d) zero n l a b e =
       let same : c ≡ a = cc in
       let other : d ≡ b = cc in
@@ -137,6 +131,15 @@ module _ {L : Type 0} where
       sym (length_numbers t) ∙ sym (length_permutation (numbers t) (range_with_len 0 (length lights)) h.once) ∙ length-range_with_len 0 (length lights)
 
 module _ {L C : Type 0} where
+  -- what the row of a node has of it
+  pub clump_row : (one : L → C) (join : C → C → C) (t : Node L) → (row_of one join t).clump ≡ clump_of one join t
+  clump_row one join (leaf n l) = refl
+  clump_row one join (fork n l a b) = refl
+
+  pub leader_row : (one : L → C) (join : C → C → C) (t : Node L) → (row_of one join t).leader ≡ leader_number t
+  leader_row one join (leaf n l) = refl
+  leader_row one join (fork n l a b) = refl
+
   pub length-rows_of : (one : L → C) (join : C → C → C) (t : Node L) → length (rows_of one join t) ≡ node_count t
   length-rows_of one join (leaf n l) = refl
   length-rows_of one join (fork n l a b) =
@@ -144,9 +147,9 @@ module _ {L C : Type 0} where
 
   -- the row of each node stands at its number
   pub row_at : (one : L → C) (join : C → C → C) (t : Node L) (p : ℕ) (s : Node L) → node_at t p ≡ Some s → slice_get (rows_of one join t) p ≡ Some (row_of one join s)
-  row_at one join (leaf n l) zero s e = ap (λ u. Some (row_of one join u)) (some_injective e)
-  row_at one join (leaf n l) (suc p) s e = none_some (None ≡ Some (row_of one join s)) e
-  row_at one join (fork n l a b) zero s e = ap (λ u. Some (row_of one join u)) (some_injective e)
+  row_at one join (leaf n l) zero s e = ap (λ u. Some (row_of one join u)) (same_Some _ _ e)
+  row_at one join (leaf n l) (suc p) s e = absurd (none-some _ e)
+  row_at one join (fork n l a b) zero s e = ap (λ u. Some (row_of one join u)) (same_Some _ _ e)
   row_at one join (fork n l a b) (suc p) s e =
       elim (nat_lt p (node_count a)) as (λ v. nat_lt p (node_count a) ≡ v → cond v (node_at a p) (node_at b (p - node_count a)) ≡ Some s → slice_get (rows_of one join a ++ rows_of one join b) p ≡ Some (row_of one join s)) [
         | true ↦ (λ q f.
@@ -172,7 +175,7 @@ module _ {L C : Type 0} where
       let few : leaf_count t ≤ 65536 = omega (arith, leaf_for_each valid lights t h.tree, h.tree.few) in
       let numbered : IsNumbered lights found.0 = node_every (IsNumbered lights) (λ n l a b q. (q.1, q.2)) t p found.0 found.1 h.tree.numbered in
       rw found.1 (record {
-        is = some_injective (sym at ∙ here);
+        is = same_Some _ _ (sym at ∙ here);
         room = omega (arith, at_room t p found.0 found.1, counts t);
         numbered = numbered;
         led = node_every IsLed (λ n l a b q. (q.1, q.2)) t p found.0 found.1 h.tree.led;

@@ -11,7 +11,7 @@ use Rattle.std.proofs.lemmas.List.{take_more, get_or-map}
 use Rattle.std.proofs.lemmas.List.FromFn.{length-enumerate_from, get_or-enumerate_from}
 use Rattle.std.proofs.lemmas.List.Elements.{All-nil, All-cons, All-map, All-from_get_or, All-head, All-tail}
 use Rattle.std.proofs.lemmas.List.Sorted.{ranks_by}
-use Rattle.std.proofs.lemmas.Option.{slice_get-get_or}
+use Rattle.std.proofs.lemmas.Option.{same_Some, slice_get-get_or}
 use Rattle.lc_num.specs.declared.vectors.Vec3.{Vec3}
 use Rattle.lc_terms.specs.Kind.{Meaning}
 use Rattle.lc_tree.specs.declared.axis.Axis.{Axis}
@@ -29,9 +29,6 @@ second_ties Equal Less q r e f h k = cc
 second_ties Equal Equal q r e f h k = refl
 second_ties Equal Greater q r e f h k =
     let l : is_lt (ordering_then q r) ≡ true = ap (λ o. is_lt (ordering_then o r)) e ∙ ap is_lt f in cc
-
-some_same : {A : Type 0} {x y : A} → Some x ≡ Some y → x ≡ y
-some_same e = cc
 
 module _ {L : Type 0} where
   same_numbered : (a b : Numbered L) → a.number ≡ b.number → a.place ≡ b.place → a.light ≡ b.light → a ≡ b
@@ -64,7 +61,7 @@ module _ {L C : Type 0} where
   ties m lights axis a b ha hb h k =
       let numbers : a.number ≡ b.number =
       exact_unsigned a.number b.number (second_ties (int_cmp (coordinate axis a.place) (coordinate axis b.place)) (nat_cmp a.number b.number) (int_cmp (coordinate axis b.place) (coordinate axis a.place)) (nat_cmp b.number a.number) (int_cmp_total.antisymm (coordinate axis b.place) (coordinate axis a.place)) (nat_cmp_total.antisymm b.number a.number) h k) in
-      let lights_same : a.light ≡ b.light = some_same (sym ha.1 ∙ ap (slice_get lights) numbers ∙ hb.1) in
+      let lights_same : a.light ≡ b.light = same_Some _ _ (sym ha.1 ∙ ap (slice_get lights) numbers ∙ hb.1) in
       same_numbered a b numbers (ha.0.place ∙ ap m.place lights_same ∙ sym hb.0.place) lights_same
 
   -- a sort along the longest axis gives the lights in order

@@ -49,9 +49,13 @@ pub(super) struct Plan {
     pub(super) look: Option<ErrorKind>,
     // The length that a look at the file tells. None: it is no plain file.
     pub(super) length: Option<u64>,
-    // How many bytes move before the end, or the error.
+    // How many bytes move, or calls print, before the end, or the error.
     pub(super) moves: u64,
     pub(super) end: Option<ErrorKind>,
+    // A signal comes before each byte.
+    pub(super) halts: bool,
+    // How many bytes are printed at a call.
+    pub(super) pace: usize,
 }
 
 // A plan of files of eight bytes.
@@ -62,6 +66,8 @@ pub(super) const SOUND: Plan = Plan {
     length: Some(8),
     moves: 8,
     end: None,
+    halts: false,
+    pace: 64,
 };
 
 fn refuse(error: Option<ErrorKind>) -> io::Result<()> {
@@ -78,13 +84,28 @@ pub(super) struct Stream<'a> {
     plan: Plan,
     mark: &'static [u8],
     moved: u64,
+    is_halted: bool,
 }
 
-impl Stream<'_> {
+impl<'a> Stream<'a> {
+    pub(super) fn new(tape: &'a Tape, plan: Plan, mark: &'static [u8]) -> Self {
+        Stream {
+            tape,
+            plan,
+            mark,
+            moved: 0,
+            is_halted: false,
+        }
+    }
+
     // Moves one byte, or ends.
     fn step(&mut self) -> io::Result<usize>
         ensures { IfOk result (λ n. n ≤ 1) }
     {
+        self.is_halted = self.plan.halts && !self.is_halted;
+        if self.is_halted {
+            return Err(io::Error::from(ErrorKind::Interrupted));
+        }
         if self.moved >= self.plan.moves {
             refuse(self.plan.end)?;
             return Ok(0);
@@ -151,22 +172,29 @@ impl OpenFile for Stream<'_> {
     // The second handle has no mark.
     fn try_clone(&self) -> io::Result<Self> {
         refuse(self.plan.clone)?;
-        Ok(Stream {
-            tape: self.tape,
-            plan: self.plan,
-            mark: b"",
-            moved: 0,
-        })
+        Ok(Stream::new(self.tape, self.plan, b""))
     }
 }
 
-// The system, whose standard output takes all at once. The tape has `<NAME>` for a file that is opened to be read, and
-// `>NAME>` for one that is made anew.
+// The system, or a printer alone. The tape of files has `<NAME>` for a file that is opened to be read, and `>NAME>` for
+// one that is made anew.
 #[derive(Drop)]
 pub(super) struct System<'a> {
-    pub(super) files: &'a Tape,
-    pub(super) output: &'a Tape,
-    pub(super) plan: Plan,
+    files: &'a Tape,
+    output: &'a Tape,
+    plan: Plan,
+    printed: Cell<u64>,
+}
+
+impl<'a> System<'a> {
+    pub(super) fn new(files: &'a Tape, output: &'a Tape, plan: Plan) -> Self {
+        System {
+            files,
+            output,
+            plan,
+            printed: Cell::new(0),
+        }
+    }
 }
 
 impl<'a> Files for System<'a> {
@@ -186,12 +214,7 @@ impl<'a> Files for System<'a> {
         self.files.add(path.as_bytes())?;
         self.files.add(b">")?;
         refuse(self.plan.open)?;
-        Ok(Stream {
-            tape: self.files,
-            plan: self.plan,
-            mark: b"!",
-            moved: 0,
-        })
+        Ok(Stream::new(self.files, self.plan, b"!"))
     }
 
     fn open_dir(&self, _path: &str) -> io::Result<Stream<'a>> {
@@ -240,41 +263,19 @@ impl Print for System<'_> {
         Err(io::Error::from(ErrorKind::Unsupported))
     }
 
-    fn write_all(&self, bytes: &[u8]) -> io::Result<()> {
-        self.output.add(bytes)
-    }
-}
-
-// A printer that takes two bytes at a call, up to an error after so many calls.
-#[derive(Drop)]
-pub(super) struct Slow<'a> {
-    pub(super) tape: &'a Tape,
-    pub(super) left: Cell<u64>,
-    pub(super) end: Option<ErrorKind>,
-}
-
-impl Print for Slow<'_> {
-    fn print<D: Display + Drop>(&self, _value: D) -> io::Result<()> {
-        Err(io::Error::from(ErrorKind::Unsupported))
-    }
-
-    fn println<D: Display + Drop>(&self, _value: D) -> io::Result<()> {
-        Err(io::Error::from(ErrorKind::Unsupported))
-    }
-
     fn write_all(&self, _bytes: &[u8]) -> io::Result<()> {
         Err(io::Error::from(ErrorKind::Unsupported))
     }
 
     fn write_some(&self, bytes: &[u8]) -> io::Result<usize> {
-        let left = self.left.get();
-        if left == 0 {
-            refuse(self.end)?;
+        let printed = self.printed.get();
+        if printed >= self.plan.moves {
+            refuse(self.plan.end)?;
             return Ok(0);
         }
-        self.left.set(left - 1);
-        let count = bytes.len().min(2);
-        self.tape.add(&bytes[..count])?;
+        self.printed.set(printed + 1);
+        let count = bytes.len().min(self.plan.pace);
+        self.output.add(&bytes[..count])?;
         Ok(count)
     }
 }

@@ -1,30 +1,28 @@
 // The desk of the system over a system that answers as a test says.
-use super::made_up::{Plan, SOUND, Slow, System, Tape};
-use crate::{Desk, HostDesk, PutStop, ReadStop, Slot};
+use super::made_up::{Plan, SOUND, System, Tape};
+use super::{begin, note, read, report, write_picture};
+use crate::{HostDesk, PutStop, ReadStop, Slot};
 use std::alloc::Global;
-use std::cell::Cell;
 use std::io::ErrorKind;
+use std::rt::Files;
 use std::test::Fail;
 
 // What a read of at most eight bytes answers, how many bytes it leaves, and the four counts after it.
-fn read_under(alloc: Global, plan: Plan) -> (Result<(), ReadStop>, usize, [u64; 4]) {
+type Reading = (Result<(), ReadStop>, usize, [u64; 4]);
+
+fn read_over<R: Files + Print>(alloc: Global, system: &R) -> Reading {
+    let mut desk = HostDesk::new(system, system);
+    let mut bytes = Vec::new(alloc);
+    let answer = read(&mut desk, "scene.obj", 8, &mut bytes);
+    let tally = &desk.tally;
+    let counts = [tally.reads, tally.absents, tally.longs, tally.shorts];
+    (answer, bytes.len(), counts)
+}
+
+fn read_under(alloc: Global, plan: Plan) -> Reading {
     let files = Tape::new(alloc);
     let output = Tape::new(alloc);
-    let system = System {
-        files: &files,
-        output: &output,
-        plan,
-    };
-    let mut desk = HostDesk::new(&system, &system);
-    let mut bytes = Vec::new(alloc);
-    let answer = desk.read("scene.obj", 8, &mut bytes);
-    let counts = [
-        desk.tally.reads,
-        desk.tally.absents,
-        desk.tally.longs,
-        desk.tally.shorts,
-    ];
-    (answer, bytes.len(), counts)
+    read_over(alloc, &System::new(&files, &output, plan))
 }
 
 #[test]
@@ -35,6 +33,7 @@ fn tells_why_a_file_is_not_read(rt: HostRuntime) {
         ErrorKind::OutOfMemory,
         ErrorKind::InvalidFilename,
     ];
+    let failed: Reading = (Err(ReadStop::Failed), 0, [1, 0, 0, 0]);
     for kind in kinds {
         let plans = [
             Plan {
@@ -52,79 +51,65 @@ fn tells_why_a_file_is_not_read(rt: HostRuntime) {
             },
         ];
         for plan in plans {
-            let (answer, count, counts) = read_under(rt.alloc(), plan);
-            assert_eq!(rt; answer, Err(ReadStop::Failed));
-            assert_eq!(rt; count, 0);
-            assert_eq!(rt; counts, [1, 0, 0, 0]);
+            assert_eq!(rt; read_under(rt.alloc(), plan), failed);
         }
     }
-    let absent = Plan {
+    let missing = Plan {
         open: Some(ErrorKind::NotFound),
         ..sound
     };
-    let (answer, count, counts) = read_under(rt.alloc(), absent);
-    assert_eq!(rt; answer, Err(ReadStop::Absent));
-    assert_eq!(rt; count, 0);
-    assert_eq!(rt; counts, [0, 1, 0, 0]);
+    let absent: Reading = (Err(ReadStop::Absent), 0, [0, 1, 0, 0]);
+    assert_eq!(rt; read_under(rt.alloc(), missing), absent);
 }
 
 #[test]
 fn measures_a_file_twice(rt: HostRuntime) {
+    let long: Reading = (Err(ReadStop::Long), 0, [0, 0, 1, 0]);
+    let whole: Reading = (Ok(()), 8, [0, 0, 0, 0]);
     // The length that the look tells, and the bytes that come.
     let rows = [
-        (Some(8), 8, true),
-        (Some(9), 8, false),
-        (Some(9), 0, false),
-        (Some(0), 8, true),
-        (Some(8), 9, false),
-        (None, 8, true),
-        (None, 9, false),
+        (Some(8), 8, whole),
+        (Some(9), 8, long),
+        (Some(9), 0, long),
+        (Some(0), 8, whole),
+        (Some(8), 9, long),
+        (None, 8, whole),
+        (None, 9, long),
     ];
-    for (length, moves, is_read) in rows {
+    for (length, moves, wanted) in rows {
         let plan = Plan {
             length,
             moves,
             ..SOUND
         };
-        let (answer, count, counts) = read_under(rt.alloc(), plan);
-        if is_read {
-            assert_eq!(rt; answer, Ok(()));
-            assert_eq!(rt; count as u64, moves);
-            assert_eq!(rt; counts, [0, 0, 0, 0]);
-        } else {
-            assert_eq!(rt; answer, Err(ReadStop::Long));
-            assert_eq!(rt; count, 0);
-            assert_eq!(rt; counts, [0, 0, 1, 0]);
-        }
+        assert_eq!(rt; read_under(rt.alloc(), plan), wanted);
     }
 }
 
 // What a begin and a put of nine bytes answer, and the counts of the picture's faults and of wants of memory.
-fn write_under(files: &Tape, alloc: Global, plan: Plan) -> (Result<(), PutStop>, u64, u64) {
-    let output = Tape::new(alloc);
-    let system = System {
-        files,
-        output: &output,
-        plan,
-    };
-    let mut desk = HostDesk::new(&system, &system);
-    let answer = match desk.begin(Slot::Picture, "a.ppm") {
-        Ok(()) => desk.put(Slot::Picture, b"P6 1 1 25"),
-        Err(stop) => Err(stop),
-    };
+type Writing = (Result<(), PutStop>, u64, u64);
+
+fn write_over<R: Files + Print>(system: &R) -> Writing {
+    let mut desk = HostDesk::new(system, system);
+    let answer = write_picture(&mut desk, "a.ppm", b"P6 1 1 25");
     (answer, desk.tally.picture.faults, desk.tally.shorts)
+}
+
+fn write_under(files: &Tape, alloc: Global, plan: Plan) -> Writing {
+    let output = Tape::new(alloc);
+    write_over(&System::new(files, &output, plan))
 }
 
 #[test]
 fn tells_why_a_file_is_not_written(rt: HostRuntime) {
     let files = Tape::new(rt.alloc());
-    let rows = [
-        (ErrorKind::NotFound, PutStop::Failed, (1, 0)),
-        (ErrorKind::StorageFull, PutStop::Failed, (1, 0)),
-        (ErrorKind::OutOfMemory, PutStop::Memory, (0, 1)),
+    let sound = SOUND;
+    let rows: [(ErrorKind, Writing); 3] = [
+        (ErrorKind::NotFound, (Err(PutStop::Failed), 1, 0)),
+        (ErrorKind::StorageFull, (Err(PutStop::Failed), 1, 0)),
+        (ErrorKind::OutOfMemory, (Err(PutStop::Memory), 0, 1)),
     ];
-    for (kind, stop, counts) in rows {
-        let sound = SOUND;
+    for (kind, wanted) in rows {
         let plans: [(Plan, &[u8]); 3] = [
             (
                 Plan {
@@ -150,38 +135,45 @@ fn tells_why_a_file_is_not_written(rt: HostRuntime) {
             ),
         ];
         for (plan, left) in plans {
-            let (answer, faults, shorts) = write_under(&files, rt.alloc(), plan);
-            assert_eq!(rt; answer, Err(stop));
-            assert_eq!(rt; (faults, shorts), counts);
+            assert_eq!(rt; write_under(&files, rt.alloc(), plan), wanted);
             assert_eq!(rt; files.take(rt.alloc()).as_slice(), left);
         }
     }
-    let (answer, faults, shorts) = write_under(&files, rt.alloc(), SOUND);
-    assert_eq!(rt; answer, Err(PutStop::Failed));
-    assert_eq!(rt; (faults, shorts), (1, 0));
-    assert_eq!(rt;
-        files.take(rt.alloc()).as_slice(),
-        b">a.ppm>P6 1 1 2".as_slice()
-    );
-    let whole = Plan { moves: 9, ..SOUND };
-    let (answer, faults, shorts) = write_under(&files, rt.alloc(), whole);
-    assert_eq!(rt; answer, Ok(()));
-    assert_eq!(rt; (faults, shorts), (0, 0));
-    assert_eq!(rt;
-        files.take(rt.alloc()).as_slice(),
-        b">a.ppm>P6 1 1 25".as_slice()
-    );
+}
+
+#[test]
+fn writes_a_file_whole_or_fails(rt: HostRuntime) {
+    let files = Tape::new(rt.alloc());
+    // The bytes that the file takes.
+    let rows: [(u64, Writing, &[u8]); 2] = [
+        (8, (Err(PutStop::Failed), 1, 0), b">a.ppm>P6 1 1 2"),
+        (9, (Ok(()), 0, 0), b">a.ppm>P6 1 1 25"),
+    ];
+    for (moves, wanted, left) in rows {
+        let plan = Plan { moves, ..SOUND };
+        assert_eq!(rt; write_under(&files, rt.alloc(), plan), wanted);
+        assert_eq!(rt; files.take(rt.alloc()).as_slice(), left);
+    }
+}
+
+// Names a file to be read and each slot to be begun, up to a refusal.
+fn pass_on<R: Files + Print>(
+    desk: &mut HostDesk<'_, R, R>,
+    name: &str,
+    bytes: &mut Vec<u8>,
+) -> bool {
+    read(desk, name, 8, bytes).is_ok()
+        && begin(desk, Slot::Picture, name).is_ok()
+        && begin(desk, Slot::Bounds, name).is_ok()
+        && begin(desk, Slot::Report, name).is_ok()
+        && begin(desk, Slot::Note, name).is_ok()
 }
 
 #[test]
 fn passes_names_on_whole(rt: HostRuntime) -> Result<(), Fail> {
     let files = Tape::new(rt.alloc());
     let output = Tape::new(rt.alloc());
-    let system = System {
-        files: &files,
-        output: &output,
-        plan: SOUND,
-    };
+    let system = System::new(&files, &output, SOUND);
     let mut desk = HostDesk::new(&system, &system);
     let mut bytes = Vec::new(rt.alloc());
     for length in [0, 1, 255, 256, 300, 5000] {
@@ -189,15 +181,25 @@ fn passes_names_on_whole(rt: HostRuntime) -> Result<(), Fail> {
         for _ in 0..length {
             name.push('n')?;
         }
-        assert_eq!(rt; desk.read(&name, 8, &mut bytes), Ok(()));
-        assert_eq!(rt; desk.begin(Slot::Picture, &name), Ok(()));
-        assert_eq!(rt; desk.begin(Slot::Bounds, &name), Ok(()));
-        assert_eq!(rt; desk.begin(Slot::Report, &name), Ok(()));
-        assert_eq!(rt; desk.begin(Slot::Note, &name), Ok(()));
+        assert!(rt; pass_on(&mut desk, &name, &mut bytes));
         let wanted = format!(in rt.alloc(); "<{name}>>{name}>>{name}>")?;
         assert_eq!(rt; files.take(rt.alloc()).as_slice(), wanted.as_bytes());
     }
     Ok(())
+}
+
+fn report_over<R: Files + Print, E: Print>(
+    desk: &mut HostDesk<'_, R, E>,
+    piece: &[u8],
+) -> Result<(), PutStop> {
+    report(desk, piece)
+}
+
+fn note_over<R: Files + Print, E: Print>(
+    desk: &mut HostDesk<'_, R, E>,
+    piece: &[u8],
+) -> Result<(), PutStop> {
+    note(desk, piece)
 }
 
 #[test]
@@ -205,21 +207,19 @@ fn prints_each_stream_on_its_own(rt: HostRuntime) {
     let files = Tape::new(rt.alloc());
     let output = Tape::new(rt.alloc());
     let errors = Tape::new(rt.alloc());
-    let system = System {
-        files: &files,
-        output: &output,
-        plan: SOUND,
-    };
-    let slow = Slow {
-        tape: &errors,
-        left: Cell::new(4),
+    let system = System::new(&files, &output, SOUND);
+    let slow = Plan {
+        moves: 4,
         end: Some(ErrorKind::BrokenPipe),
+        pace: 2,
+        ..SOUND
     };
+    let slow = System::new(&files, &errors, slow);
     let mut desk = HostDesk::new(&system, &slow);
-    assert_eq!(rt; desk.put(Slot::Report, b"1 1 0\n"), Ok(()));
-    assert_eq!(rt; desk.put(Slot::Note, b"a.txt"), Ok(()));
-    assert_eq!(rt; desk.put(Slot::Report, b"2\n"), Ok(()));
-    assert_eq!(rt; desk.put(Slot::Note, b": absent\n"), Err(PutStop::Failed));
+    assert_eq!(rt; report_over(&mut desk, b"1 1 0\n"), Ok(()));
+    assert_eq!(rt; note_over(&mut desk, b"a.txt"), Ok(()));
+    assert_eq!(rt; report_over(&mut desk, b"2\n"), Ok(()));
+    assert_eq!(rt; note_over(&mut desk, b": absent\n"), Err(PutStop::Failed));
     assert_eq!(rt;
         output.take(rt.alloc()).as_slice(),
         b"1 1 0\n2\n".as_slice()
@@ -227,13 +227,20 @@ fn prints_each_stream_on_its_own(rt: HostRuntime) {
     assert_eq!(rt; errors.take(rt.alloc()).as_slice(), b"a.txt: ".as_slice());
     assert_eq!(rt; files.take(rt.alloc()).len(), 0);
     assert_eq!(rt; (desk.tally.report.faults, desk.tally.note.faults), (0, 1));
-    let full = Slow {
-        tape: &errors,
-        left: Cell::new(1),
+}
+
+#[test]
+fn wants_memory_to_print(rt: HostRuntime) {
+    let errors = Tape::new(rt.alloc());
+    let full = Plan {
+        moves: 1,
         end: Some(ErrorKind::OutOfMemory),
+        pace: 2,
+        ..SOUND
     };
-    let mut desk = HostDesk::new(&system, &full);
-    assert_eq!(rt; desk.put(Slot::Note, b"a.txt"), Err(PutStop::Memory));
+    let full = System::new(&errors, &errors, full);
+    let mut desk = HostDesk::new(&full, &full);
+    assert_eq!(rt; note_over(&mut desk, b"a.txt"), Err(PutStop::Memory));
     assert_eq!(rt; errors.take(rt.alloc()).as_slice(), b"a.".as_slice());
     assert_eq!(rt; (desk.tally.shorts, desk.tally.note.faults), (1, 0));
 }

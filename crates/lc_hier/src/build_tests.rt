@@ -1,5 +1,5 @@
 // Hierarchies of few triangles, and of many that cannot be told apart by their places.
-ghost use Rattle.std.specs.Prelude.{◌≡◌, ◌≤◌, All, IfOk, unsigned_abs, vec_len};
+ghost use Rattle.std.specs.Prelude.{◌≡◌, ◌≤◌, All, IfOk, length, unsigned_abs, vec_len};
 ghost use Rattle.lc_geom.specs.Triangles.{IsTri};
 
 use super::*;
@@ -19,7 +19,7 @@ enum Shape {
 }
 
 /// A triangle with corners at a place and at its mirror image.
-fn across(x: i64, y: i64, z: i64) -> Tri
+fn mirrored(x: i64, y: i64, z: i64) -> Tri
     requires x { unsigned_abs x ≤ 50_000_000 }
     requires y { unsigned_abs y ≤ 50_000_000 }
     requires z { unsigned_abs z ≤ 50_000_000 }
@@ -42,9 +42,9 @@ fn shaped(shape: Shape, number: u32) -> Tri
 {
     let far = number as i64 + 1;
     match shape {
-        Shape::Equal => across(10_000, 10_000, 10_000),
-        Shape::Needles => across(10_000 * far, 1, 0),
-        Shape::Nested => across(far, far, far),
+        Shape::Equal => mirrored(10_000, 10_000, 10_000),
+        Shape::Needles => mirrored(10_000 * far, 1, 0),
+        Shape::Nested => mirrored(far, far, far),
     }
 }
 
@@ -83,41 +83,41 @@ fn sum_of_numbers(hier: &Hier) -> u64 {
     sum
 }
 
+/// How many nodes and rows the hierarchy of a list has, the sum of the rows' numbers, and how many boxes the innermost
+/// stands in.
+fn form_of(alloc: Global, list: &[Tri]) -> Result<(usize, usize, u64, usize), Memory>
+    requires valid { All IsTri list.now }
+    requires few { length list.now ≤ 1_000_000 }
+{
+    let hier = Hier::build(alloc, list)?;
+    let deepest = deepest(alloc, &hier)?;
+    Ok((
+        hier.nodes.len(),
+        hier.rows.len(),
+        sum_of_numbers(&hier),
+        deepest,
+    ))
+}
+
 #[test]
 fn few(rt: HostRuntime) -> Result<(), Fail> {
-    let none = Hier::build(rt.alloc(), &[])?;
-    assert_eq!(rt; none.nodes.len(), 1);
-    assert_eq!(rt; none.rows.len(), 0);
-    let one = Hier::build(rt.alloc(), &[across(50_000_000, -50_000_000, 50_000_000)])?;
-    assert_eq!(rt; one.nodes.len(), 2);
-    assert_eq!(rt; one.rows.len(), 1);
-    assert_eq!(rt; deepest(rt.alloc(), &one)?, 1);
+    let one = mirrored(50_000_000, -50_000_000, 50_000_000);
+    assert_eq!(rt; form_of(rt.alloc(), &[])?, (1, 0, 0, 0));
+    assert_eq!(rt; form_of(rt.alloc(), &[one])?, (2, 1, 0, 1));
     Ok(())
 }
 
 #[test]
-fn equal(rt: HostRuntime) -> Result<(), Fail> {
-    let hier = Hier::build(rt.alloc(), &many(rt.alloc(), Shape::Equal, 3000)?)?;
-    assert_eq!(rt; hier.rows.len(), 3000);
-    assert_eq!(rt; sum_of_numbers(&hier), 4_498_500);
-    assert_eq!(rt; deepest(rt.alloc(), &hier)?, 12);
-    Ok(())
-}
-
-#[test]
-fn needles(rt: HostRuntime) -> Result<(), Fail> {
-    let hier = Hier::build(rt.alloc(), &many(rt.alloc(), Shape::Needles, 3000)?)?;
-    assert_eq!(rt; hier.rows.len(), 3000);
-    assert_eq!(rt; sum_of_numbers(&hier), 4_498_500);
-    assert!(rt; deepest(rt.alloc(), &hier)? <= 68);
-    Ok(())
-}
-
-#[test]
-fn nested(rt: HostRuntime) -> Result<(), Fail> {
-    let hier = Hier::build(rt.alloc(), &many(rt.alloc(), Shape::Nested, 3000)?)?;
-    assert_eq!(rt; hier.rows.len(), 3000);
-    assert_eq!(rt; sum_of_numbers(&hier), 4_498_500);
-    assert!(rt; deepest(rt.alloc(), &hier)? <= 68);
+fn many_at_one_place(rt: HostRuntime) -> Result<(), Fail> {
+    for (shape, least, most) in [
+        (Shape::Equal, 12, 12),
+        (Shape::Needles, 1, 68),
+        (Shape::Nested, 1, 68),
+    ] {
+        let list = many(rt.alloc(), shape, 3000)?;
+        let (_, rows, sum, deepest) = form_of(rt.alloc(), &list)?;
+        assert_eq!(rt; (rows, sum), (3000, 4_498_500));
+        assert!(rt; least <= deepest && deepest <= most, "{deepest}");
+    }
     Ok(())
 }

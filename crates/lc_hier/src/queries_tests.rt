@@ -115,22 +115,34 @@ fn random_list(
     Ok(list)
 }
 
+/// Whether both forms of a random list answer alike at 60 random segments.
+fn random_answers(alloc: Global, random: &mut Random, most: u32, count: u32) -> Result<bool, Memory>
+    requires { count ≤ 1000 }
+{
+    let list = random_list(alloc, random, most, count)?;
+    let both = in_both_forms(alloc, list)?;
+    let middle = Vec3 { x: 0, y: 0, z: 0 };
+    let mut agree = true;
+    for _ in 0..60 {
+        let p = random.place(middle, most);
+        let d = random.place(middle, most);
+        agree &= both.agree(p, d);
+    }
+    Ok(agree)
+}
+
 #[test]
 fn random_triangles(rt: HostRuntime) -> Result<(), Fail> {
     // On small grids many edges, corners and planes meet; the largest reaches the limits.
     let mut random = Random {
         state: 88_172_645_463_325_252,
     };
-    let middle = Vec3 { x: 0, y: 0, z: 0 };
     for most in [2, 3, 20, 1_000, 100_000, 5_000_000, 50_000_000] {
         for count in [1, 2, 3, 8, 40, 200] {
-            let list = random_list(rt.alloc(), &mut random, most, count)?;
-            let both = in_both_forms(rt.alloc(), list)?;
-            for _ in 0..60 {
-                let p = random.place(middle, most);
-                let d = random.place(middle, most);
-                assert!(rt; both.agree(p, d));
-            }
+            assert!(rt;
+                random_answers(rt.alloc(), &mut random, most, count)?,
+                "{count} up to {most}"
+            );
         }
     }
     Ok(())

@@ -1,5 +1,5 @@
 // Hits and blocked segments of a list, and boxes that a segment misses, worked out by hand.
-ghost use Rattle.std.specs.Prelude.{◌≤◌, unsigned_abs};
+ghost use Rattle.std.specs.Prelude.{◌≤◌, length};
 ghost use Rattle.lc_geom.specs.Triangles.{IsTri};
 
 use super::*;
@@ -10,11 +10,11 @@ use lc_num::{List, Memory, Vec3};
 use std::alloc::Global;
 use std::test::*;
 
-/// The triangle of the worked scene at a height.
-fn at_height(z: i64) -> Tri
-    requires { unsigned_abs z ≤ 50_000_000 }
+/// The triangle of the worked scene, as high as a digit says in metres above -1.
+fn at_height(digit: u8) -> Tri
     ensures { IsTri result }
 {
+    let z = 10_000 * digit as i64 - 490_000;
     Tri {
         a: Vec3 {
             x: -10_000,
@@ -30,20 +30,19 @@ fn at_height(z: i64) -> Tri
     }
 }
 
-fn three(alloc: Global, a: Tri, b: Tri, c: Tri) -> Result<Plain, Memory>
-    requires a { IsTri a }
-    requires b { IsTri b }
-    requires c { IsTri c }
+/// A list of such triangles.
+fn stack(alloc: Global, heights: &[u8]) -> Result<Plain, Memory>
+    requires { length heights.now ≤ 3 }
 {
     let mut list = List::new(alloc);
-    list.push(a)?;
-    list.push(b)?;
-    list.push(c)?;
+    for height in heights {
+        list.push(at_height(*height))?;
+    }
     Ok(Plain::new(list))
 }
 
-#[test]
-fn first_hits(rt: HostRuntime) -> Result<(), Fail> {
+/// What the rays down and up from an eye at 5 hit first, and whether the way from it down to -1 is blocked.
+fn seen(list: &Plain) -> (Option<Hit>, Option<Hit>, bool) {
     let eye = Vec3 {
         x: 0,
         y: 0,
@@ -59,58 +58,52 @@ fn first_hits(rt: HostRuntime) -> Result<(), Fail> {
         y: 0,
         z: 268_435_456,
     };
-    // Of two triangles at one place the first is hit, wherever a farther one stands.
-    let low = at_height(0);
-    let lower = at_height(-10_000);
-    let hit = |number| Some(Hit {
-        depth: 200_000,
-        number,
-    });
-    assert_eq!(rt;
-        three(rt.alloc(), low, low, lower)?.nearest(eye, down),
-        hit(0)
-    );
-    assert_eq!(rt;
-        three(rt.alloc(), lower, low, low)?.nearest(eye, down),
-        hit(1)
-    );
-    assert_eq!(rt;
-        three(rt.alloc(), lower, lower, low)?.nearest(eye, down),
-        hit(2)
-    );
-    assert_eq!(rt; three(rt.alloc(), low, low, lower)?.nearest(eye, up), None);
-    let mut twice = List::new(rt.alloc());
-    twice.push(low)?;
-    twice.push(low)?;
-    let twice = Plain::new(twice);
-    assert_eq!(rt; twice.nearest(eye, down), hit(0));
-    assert_eq!(rt; twice.nearest(eye, up), None);
-    let far = Vec3 {
+    let low = Vec3 {
         x: 0,
         y: 0,
         z: -10_000,
     };
-    assert!(rt; three(rt.alloc(), lower, lower, low)?.blocked(eye, far));
-    assert!(rt; !three(rt.alloc(), lower, lower, lower)?.blocked(eye, far));
-    let none = Plain::new(List::new(rt.alloc()));
-    assert_eq!(rt; none.nearest(eye, down), None);
-    assert!(rt; !none.blocked(eye, far));
+    (
+        list.nearest(eye, down),
+        list.nearest(eye, up),
+        list.blocked(eye, low),
+    )
+}
+
+fn hit(depth: u32, number: u32) -> Option<Hit> {
+    Some(Hit { depth, number })
+}
+
+#[test]
+fn first_hits(rt: HostRuntime) -> Result<(), Fail> {
+    // Of two triangles at one place the first is hit, wherever a farther one stands. The way ends on the lowest.
+    for (heights, first, is_blocked) in [
+        (b"110".as_slice(), hit(200_000, 0), true),
+        (b"011", hit(200_000, 1), true),
+        (b"001", hit(200_000, 2), true),
+        (b"000", hit(240_000, 0), false),
+        (b"11", hit(200_000, 0), true),
+        (b"", None, false),
+    ] {
+        assert!(rt; heights.len() <= 3);
+        let list = stack(rt.alloc(), heights)?;
+        assert_eq!(rt; seen(&list), (first, None, is_blocked), "{heights:?}");
+    }
     Ok(())
 }
 
-fn between(low: (i32, i32, i32), high: (i32, i32, i32)) -> Bounds {
-    Bounds {
-        low: Corner {
-            x: low.0,
-            y: low.1,
-            z: low.2,
-        },
-        high: Corner {
-            x: high.0,
-            y: high.1,
-            z: high.2,
-        },
-    }
+/// A place or a corner, by its coordinates.
+type Place = (i32, i32, i32);
+
+fn corner((x, y, z): Place) -> Corner {
+    Corner { x, y, z }
+}
+
+fn misses(beam: &Beam, low: Place, high: Place) -> bool {
+    beam.misses(&Bounds {
+        low: corner(low),
+        high: corner(high),
+    })
 }
 
 #[test]
@@ -121,22 +114,10 @@ fn missed_boxes(rt: HostRuntime) {
         y: 50_000,
         z: -20_000,
     };
-    let mut beam = Beam::new(start, end);
-    // Round the middle of the segment, beside it, behind its start and beyond its end.
-    let middle = between((40_000, 20_000, -12_000), (60_000, 30_000, -8_000));
-    let beside = between((40_000, 31_000, -12_000), (60_000, 40_000, -8_000));
-    let behind = between((-20_000, -10_000, 2_000), (-10_000, -5_000, 4_000));
-    let beyond = between((101_000, 40_000, -30_000), (120_000, 60_000, -10_000));
-    assert!(rt; !beam.misses(&middle));
-    assert!(rt; beam.misses(&beside));
-    assert!(rt; beam.misses(&behind));
-    assert!(rt; beam.misses(&beyond));
-    // Once only the first half matters, what begins behind it does not.
-    let later = between((52_000, 24_000, -14_000), (60_000, 32_000, -8_000));
-    assert!(rt; !beam.misses(&later));
-    beam.shorten(536_870_911);
-    assert!(rt; beam.misses(&later));
-    assert!(rt; !beam.misses(&middle));
+    let whole = Beam::new(start, end);
+    // Only its first half matters.
+    let mut half = whole;
+    half.shorten(536_870_911);
     // A long segment that leads back along an axis, and hardly along another.
     let far = Vec3 {
         x: 300_000_000,
@@ -144,10 +125,60 @@ fn missed_boxes(rt: HostRuntime) {
         z: -300_000_000,
     };
     let sun = Beam::new(start, far);
-    let along = between((40_000, 0, -60_000), (50_000, 0, -45_000));
-    let above = between((40_000, 5_000, -60_000), (50_000, 6_000, -45_000));
-    let aside = between((40_000, 0, -70_000), (50_000, 0, -55_000));
-    assert!(rt; !sun.misses(&along));
-    assert!(rt; sun.misses(&above));
-    assert!(rt; sun.misses(&aside));
+    // Whether each of the three misses the box.
+    for (low, high, wanted) in [
+        // Round the middle of the first segment, beside it, behind its start and beyond its end.
+        (
+            (40_000, 20_000, -12_000),
+            (60_000, 30_000, -8_000),
+            (false, false, true),
+        ),
+        (
+            (40_000, 31_000, -12_000),
+            (60_000, 40_000, -8_000),
+            (true, true, true),
+        ),
+        (
+            (-20_000, -10_000, 2_000),
+            (-10_000, -5_000, 4_000),
+            (true, true, true),
+        ),
+        (
+            (101_000, 40_000, -30_000),
+            (120_000, 60_000, -10_000),
+            (true, true, true),
+        ),
+        // On its second half.
+        (
+            (52_000, 24_000, -14_000),
+            (60_000, 32_000, -8_000),
+            (false, true, true),
+        ),
+        // On the long segment, above it and aside of it.
+        (
+            (40_000, 0, -60_000),
+            (50_000, 0, -45_000),
+            (true, true, false),
+        ),
+        (
+            (40_000, 5_000, -60_000),
+            (50_000, 6_000, -45_000),
+            (true, true, true),
+        ),
+        (
+            (40_000, 0, -70_000),
+            (50_000, 0, -55_000),
+            (true, true, true),
+        ),
+    ] {
+        assert_eq!(rt;
+            (
+                misses(&whole, low, high),
+                misses(&half, low, high),
+                misses(&sun, low, high)
+            ),
+            wanted,
+            "the box from {low:?} to {high:?}"
+        );
+    }
 }

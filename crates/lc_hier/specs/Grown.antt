@@ -1,4 +1,4 @@
--- What building keeps.
+-- What building keeps. Clauses of private functions alone speak of it.
 use Rattle.std.specs.Prelude.{◌≡◌, ℕ, ◌+◌, ◌<◌, ◌≤◌, List, All, length, slice_get, slice_index_or, Some}
 use Rattle.lc_num.specs.Vectors.{zero_vector}
 use Rattle.lc_geom.specs.declared.triangle.Tri.{Tri}

@@ -1,4 +1,4 @@
--- Triangles that a segment passes.
+-- Triangles that a segment passes. Clauses of private functions alone speak of them.
 use Rattle.std.specs.Prelude.{◌≡◌, ℕ, ◌<◌, true, unsigned_abs}
 use Rattle.lc_num.specs.declared.vectors.Vec3.{Vec3}
 use Rattle.lc_geom.specs.declared.triangle.Tri.{Tri}

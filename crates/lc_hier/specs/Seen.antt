@@ -1,4 +1,4 @@
--- What is known of the first rows of a hierarchy while it is walked.
+-- What is known of the first rows of a hierarchy while it is walked. Clauses of private functions alone speak of it.
 use Rattle.std.specs.Prelude.{◌≡◌, ℕ, ◌-◌, ◌<◌, ◌≢◌, nat_lt, if◌then◌else◌, true, false, List, Option, None, Some, slice_get, IfSome, MatchOption}
 use Rattle.lc_num.specs.declared.vectors.Vec3.{Vec3}
 use Rattle.lc_geom.specs.Crossing.{crosses}

@@ -1,4 +1,4 @@
--- Which slabs serve a segment on their axis.
+-- Which slabs serve a segment on their axis. Clauses of private functions and types alone speak of them.
 use Rattle.std.specs.Prelude.{◌≡◌, ℕ, true, false, ℤ, pos, ◌-ℤ◌, ◌*ℤ◌, ◌≤ℤ◌}
 use Rattle.lc_hier.specs.declared.slab.Slab.{Slab}
 

@@ -1,4 +1,5 @@
--- The first hit of those on the triangles so far and one on the next triangle.
+-- The first hit of those on the triangles so far and one on the next triangle. Clauses of private functions alone speak
+-- of it.
 use Rattle.std.specs.Prelude.{ℕ, nat_le, Option, Some, None, if◌then◌else◌}
 use Rattle.lc_geom.specs.declared.hit.Hit.{Hit}
 

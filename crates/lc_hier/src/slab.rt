@@ -10,8 +10,8 @@ pub(crate) const WHOLE: u32 = 1 << 30;
 #[derive(Clone, Copy)]
 pub(crate) struct Slab {
     start: i64,
-    /// The start. Along an axis on which the segment is shorter than a unit it is moved back by one, so that the
-    /// segment leaves no box too early.
+    /// The start. Along an axis on which the segment is shorter than a step of
+    /// `1 << shift` it is moved back by one, so that the segment leaves no box too early.
     wide: i64,
     low: i64,
     high: i64,
@@ -23,7 +23,7 @@ pub(crate) struct Slab {
     ghost high_small: { unsigned_abs high ≤ 2 ^ 30 + 1 },
 }
 
-/// Bounds of the reciprocal of a length. Where it is less than a unit, it is lengthened by `slack` for the upper one.
+/// Bounds of the reciprocal of a length. Where it is less than a step, it is lengthened by `slack` for the upper one.
 #[derive(Clone, Copy)]
 struct Reciprocals {
     low: u32,
@@ -32,7 +32,7 @@ struct Reciprocals {
 }
 
 impl Reciprocals {
-    /// Bounds of `(WHOLE << shift) / length`. Lengths are rounded to units of `1 << shift`, so that few bits of the
+    /// Bounds of `(WHOLE << shift) / length`. Lengths are rounded to steps of `1 << shift`, so that few bits of the
     /// bounds are lost; one division serves where nothing is rounded.
     #[inline(always)]
     fn of(length: u32, shift: u32) -> Reciprocals
@@ -43,19 +43,19 @@ impl Reciprocals {
         ensures high_small { result.high ≤ 2 ^ 30 + 1 }
         ensures slack_small { result.slack ≤ 2 ^ 12 }
     {
-        let units = length >> shift;
-        if units == 0 {
+        let steps = length >> shift;
+        if steps == 0 {
             return Reciprocals {
                 low: WHOLE,
                 high: WHOLE,
                 slack: 1 << shift,
             };
         }
-        let quotient = WHOLE / units;
+        let quotient = WHOLE / steps;
         let low = if shift == 0 {
             quotient
         } else {
-            WHOLE / (units + 1)
+            WHOLE / (steps + 1)
         };
         Reciprocals {
             low,

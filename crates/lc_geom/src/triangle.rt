@@ -22,8 +22,9 @@ pub(crate) fn across(t: &Tri) -> Vec3
     cross(difference(t.b, t.a), difference(t.c, t.a))
 }
 
-/// The normal of a triangle: 16384 times the cross product of its sides over that product's length, toward zero in each
-/// component. Seen from its side the corners go round against the clock.
+/// The normal of a triangle: 16384 times the cross product of its sides over that product's length rounded down, toward
+/// zero in each component. So each component is at most 16384, but where that product has few units the normal can be
+/// longer. Seen from its side the corners go round against the clock.
 pub fn normal_of(t: &Tri) -> Vec3
     requires { IsTri t.now }
     ensures value { result ≡ normal_of t.now }

@@ -30,7 +30,7 @@ place_at ray depth = record {
   z = ray.e.z +ℤ part_at depth ray.d.z;
 }
 
--- a coordinate, 16 units off along a normal of length 16384, toward zero, and at most 50,100,000 in absolute value
+-- a coordinate, moved along 16/16384 of a normal, toward zero, and at most 50,100,000 in absolute value
 abbrev pub lifted : ℤ → ℤ → ℤ
 lifted at normal = int_max (negsuc 50_099_999) (int_min (pos 50_100_000) (at +ℤ int_div (normal *ℤ pos 16) (pos 16384)))
 

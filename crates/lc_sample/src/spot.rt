@@ -47,7 +47,7 @@ fn place_at(ray: Ray, depth: u32) -> Vec3
     }
 }
 
-/// How far a coordinate moves where a place moves 16 units along a normal of length 16384, toward zero.
+/// How far a coordinate moves where a place moves along 16/16384 of a normal, toward zero: at most 16 units.
 fn lift(normal: i64) -> i64
     requires { unsigned_abs normal ≤ 16384 }
     ensures value { result ≡ int_div (normal *ℤ pos 16) (pos 16384) }
@@ -56,7 +56,7 @@ fn lift(normal: i64) -> i64
     normal * 16 / 16_384
 }
 
-/// A coordinate, moved 16 units off the surface along a normal, and kept in the range of spots.
+/// A coordinate, moved off the surface along 16/16384 of a normal, and kept in the range of spots.
 fn lifted(at: i64, normal: i64) -> i64
     requires at { unsigned_abs at ≤ 2 ^ 30 }
     requires normal { unsigned_abs normal ≤ 16384 }
@@ -90,7 +90,7 @@ fn mirrored_part(turned: i64, squared: i64, n: i64, w: i64) -> i64
     2 * turned * n - squared * w
 }
 
-/// The dot product of vectors of at most 16384.
+/// The dot product of vectors of at most 16384 in each component.
 fn short_dot(a: Vec3, b: Vec3) -> i64
     requires a { Within 16384 a }
     requires b { Within 16384 b }
@@ -150,10 +150,10 @@ fn spot_on(ray: Ray, depth: u32, surface: &Surface) -> Spot
     }
 }
 
-/// The spot of a ray's hit on a scene: the place of the hit, 16 units off the surface on the side of the ray's beginning;
-/// the normal there, which is that between the normals of the triangle's corners where each has one, turned to that side,
-/// and else the triangle's own; the view to the ray's beginning, mirrored at the normal; and how the surface sends light
-/// back.
+/// The spot of a ray's hit on a scene: the place of the hit, moved off the surface along 16/16384 of the triangle's
+/// normal on the side of the ray's beginning; the normal there, which is that between the normals of the triangle's
+/// corners where each has one, turned to that side, and else the triangle's own; the view to the ray's beginning,
+/// mirrored at the normal; and how the surface sends light back.
 pub fn spot_of(scene: &Scene, ray: Ray, hit: Hit) -> Spot
     requires ray { IsRay ray }
     requires hit { IsHit (triangles_of scene.now) ray hit }

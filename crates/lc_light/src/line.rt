@@ -3,7 +3,7 @@ ghost use Rattle.std.specs.Prelude.{◌≡◌, ◌+◌, ◌<◌, ◌≤◌, ◌^
 ghost use Rattle.lc_num.specs.Vectors.{Within};
 ghost use Rattle.lc_scan.specs.Fields.{fields};
 ghost use Rattle.lc_light.specs.Sources.{IsSource, count};
-ghost use Rattle.lc_scan.specs.LineTests.{first_kind};
+ghost use Rattle.lc_scan.specs.LineTests.{first_kind, IsAnswer};
 ghost use Rattle.lc_light.specs.LightLine.{point, sun, area, source_by, source_of, area_tests, value_tests, value_count, kind_of};
 
 use crate::area::Area;
@@ -19,9 +19,7 @@ const MOST_LIGHTS: usize = 65_536;
 
 fn point(values: &mut Fields) -> Result<Omni, Kind>
     requires { 6 ≤ length values.old }
-    ensures { MatchResult result
-        (λ omni. (first_kind (value_tests Keyword.Point values.old) ≡ None) × (point values.old ≡ omni))
-        (λ kind. first_kind (value_tests Keyword.Point values.old) ≡ Some kind) }
+    ensures { IsAnswer (first_kind (value_tests Keyword.Point values.old)) (point values.old) result }
 {
     let place = vector(values)?;
     let power = power(values)?;
@@ -31,9 +29,7 @@ fn point(values: &mut Fields) -> Result<Omni, Kind>
 /// The sun of the values, its direction scaled.
 fn sun(values: &mut Fields) -> Result<Sun, Kind>
     requires { 6 ≤ length values.old }
-    ensures { MatchResult result
-        (λ made. (first_kind (value_tests Keyword.Sun values.old) ≡ None) × (sun values.old ≡ made))
-        (λ kind. first_kind (value_tests Keyword.Sun values.old) ≡ Some kind) }
+    ensures { IsAnswer (first_kind (value_tests Keyword.Sun values.old)) (sun values.old) result }
 {
     let direction = vector(values)?;
     let power = power(values)?;
@@ -49,9 +45,7 @@ fn sun(values: &mut Fields) -> Result<Sun, Kind>
 /// The area light of the values, before it is tested as a whole.
 fn read_area(values: &mut Fields) -> Result<Area, Kind>
     requires { 13 ≤ length values.old }
-    ensures value { MatchResult result
-        (λ made. (first_kind (area_tests values.old) ≡ None) × (area values.old ≡ made))
-        (λ kind. first_kind (area_tests values.old) ≡ Some kind) }
+    ensures value { IsAnswer (first_kind (area_tests values.old)) (area values.old) result }
     ensures range { IfOk result (λ made. Within 50_000_000 made.corner × Within (10 ^ 14) made.along × Within (10 ^ 14) made.across) }
 {
     let corner = vector(values)?;
@@ -71,9 +65,7 @@ fn read_area(values: &mut Fields) -> Result<Area, Kind>
 /// The area light of the values.
 fn area(values: &mut Fields) -> Result<Area, Kind>
     requires { 13 ≤ length values.old }
-    ensures { MatchResult result
-        (λ made. (first_kind (value_tests Keyword.Area values.old) ≡ None) × (area values.old ≡ made))
-        (λ kind. first_kind (value_tests Keyword.Area values.old) ≡ Some kind) }
+    ensures { IsAnswer (first_kind (value_tests Keyword.Area values.old)) (area values.old) result }
 {
     let area = read_area(values)?;
     if !area.has_places() {
@@ -88,9 +80,7 @@ fn area(values: &mut Fields) -> Result<Area, Kind>
 /// The source of the values after a keyword.
 fn source_by(keyword: Keyword, values: &mut Fields) -> Result<Source, Kind>
     requires { value_count keyword ≤ length values.old }
-    ensures { MatchResult result
-        (λ source. (first_kind (value_tests keyword values.old) ≡ None) × (source_by keyword values.old ≡ source))
-        (λ kind. first_kind (value_tests keyword values.old) ≡ Some kind) }
+    ensures { IsAnswer (first_kind (value_tests keyword values.old)) (source_by keyword values.old) result }
 {
     match keyword {
         Keyword::Point => Ok(Source::Point(point(values)?)),

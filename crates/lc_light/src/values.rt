@@ -1,8 +1,8 @@
 // The values of a line, one after the other.
-ghost use Rattle.std.specs.Prelude.{◌≡◌, ◌<◌, ◌≤◌, ◌^◌, length, drop, Some, None, IfOk, OnOk, MatchResult, unsigned_abs};
+ghost use Rattle.std.specs.Prelude.{◌≡◌, ◌<◌, ◌≤◌, ◌^◌, length, drop, Some, IfOk, OnOk, unsigned_abs};
 ghost use Rattle.lc_num.specs.Vectors.{Within};
 ghost use Rattle.lc_scan.specs.Decimal.{units};
-ghost use Rattle.lc_scan.specs.LineTests.{first_kind};
+ghost use Rattle.lc_scan.specs.LineTests.{first_kind, IsAnswer};
 ghost use Rattle.lc_light.specs.LightLine.{number, whole_number, value, vector_at, power_at, number_test, coordinate_test, intensity_test, samples_test, side_tests, vector_tests, power_tests};
 
 use crate::area::MOST_COORDINATE;
@@ -19,9 +19,7 @@ const MOST_SAMPLES: u64 = 4096;
 fn number(values: &mut Fields) -> Result<i64, Kind>
     requires { 0 < length values.old }
     ensures rest { values.new ≡ drop 1 values.old }
-    ensures value { MatchResult result
-        (λ z. (number_test (number 0 values.old) ≡ None) × (units (number 0 values.old) ≡ z))
-        (λ kind. number_test (number 0 values.old) ≡ Some kind) }
+    ensures value { IsAnswer (number_test (number 0 values.old)) (units (number 0 values.old)) result }
     ensures range { IfOk result (λ z. unsigned_abs z ≤ 10 ^ 14) }
 {
     let Some(field) = values.next_field() else {
@@ -37,9 +35,7 @@ fn number(values: &mut Fields) -> Result<i64, Kind>
 fn coordinate(values: &mut Fields) -> Result<i64, Kind>
     requires { 0 < length values.old }
     ensures rest { values.new ≡ drop 1 values.old }
-    ensures value { MatchResult result
-        (λ z. (coordinate_test (number 0 values.old) ≡ None) × (units (number 0 values.old) ≡ z))
-        (λ kind. coordinate_test (number 0 values.old) ≡ Some kind) }
+    ensures value { IsAnswer (coordinate_test (number 0 values.old)) (units (number 0 values.old)) result }
     ensures range { IfOk result (λ z. unsigned_abs z ≤ 50_000_000) }
 {
     let Some(field) = values.next_field() else {
@@ -61,9 +57,7 @@ fn coordinate(values: &mut Fields) -> Result<i64, Kind>
 fn intensity(values: &mut Fields) -> Result<u64, Kind>
     requires { 0 < length values.old }
     ensures rest { values.new ≡ drop 1 values.old }
-    ensures value { MatchResult result
-        (λ n. (intensity_test (number 0 values.old) ≡ None) × (unsigned_abs (units (number 0 values.old)) ≡ n))
-        (λ kind. intensity_test (number 0 values.old) ≡ Some kind) }
+    ensures value { IsAnswer (intensity_test (number 0 values.old)) (unsigned_abs (units (number 0 values.old))) result }
 {
     let Some(field) = values.next_field() else {
         return Err(Kind::Number);
@@ -85,9 +79,7 @@ fn intensity(values: &mut Fields) -> Result<u64, Kind>
 /// The next value as the number of samples of an area light.
 pub fn samples(values: &mut Fields) -> Result<u32, Kind>
     requires { 0 < length values.old }
-    ensures value { MatchResult result
-        (λ n. (samples_test (whole_number 0 values.old) ≡ None) × (value (whole_number 0 values.old) ≡ n))
-        (λ kind. samples_test (whole_number 0 values.old) ≡ Some kind) }
+    ensures value { IsAnswer (samples_test (whole_number 0 values.old)) (value (whole_number 0 values.old)) result }
 {
     let Some(field) = values.next_field() else {
         return Err(Kind::Number);
@@ -108,9 +100,7 @@ pub fn samples(values: &mut Fields) -> Result<u32, Kind>
 pub fn side(values: &mut Fields) -> Result<Vec3, Kind>
     requires { 3 ≤ length values.old }
     ensures rest { OnOk result (values.new ≡ drop 3 values.old) }
-    ensures value { MatchResult result
-        (λ v. (first_kind (side_tests 0 values.old) ≡ None) × (vector_at 0 values.old ≡ v))
-        (λ kind. first_kind (side_tests 0 values.old) ≡ Some kind) }
+    ensures value { IsAnswer (first_kind (side_tests 0 values.old)) (vector_at 0 values.old) result }
     ensures range { IfOk result (Within (10 ^ 14)) }
 {
     let x = number(values)?;
@@ -123,9 +113,7 @@ pub fn side(values: &mut Fields) -> Result<Vec3, Kind>
 pub fn vector(values: &mut Fields) -> Result<Vec3, Kind>
     requires { 3 ≤ length values.old }
     ensures rest { OnOk result (values.new ≡ drop 3 values.old) }
-    ensures value { MatchResult result
-        (λ v. (first_kind (vector_tests 0 values.old) ≡ None) × (vector_at 0 values.old ≡ v))
-        (λ kind. first_kind (vector_tests 0 values.old) ≡ Some kind) }
+    ensures value { IsAnswer (first_kind (vector_tests 0 values.old)) (vector_at 0 values.old) result }
     ensures range { IfOk result (Within 50_000_000) }
 {
     let x = coordinate(values)?;
@@ -138,9 +126,7 @@ pub fn vector(values: &mut Fields) -> Result<Vec3, Kind>
 pub fn power(values: &mut Fields) -> Result<Power, Kind>
     requires { 3 ≤ length values.old }
     ensures rest { OnOk result (values.new ≡ drop 3 values.old) }
-    ensures value { MatchResult result
-        (λ v. (first_kind (power_tests 0 values.old) ≡ None) × (power_at 0 values.old ≡ v))
-        (λ kind. first_kind (power_tests 0 values.old) ≡ Some kind) }
+    ensures value { IsAnswer (first_kind (power_tests 0 values.old)) (power_at 0 values.old) result }
 {
     let r = intensity(values)?;
     let g = intensity(values)?;

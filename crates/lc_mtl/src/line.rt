@@ -1,8 +1,8 @@
 // One line of a material library.
-ghost use Rattle.std.specs.Prelude.{◌≡◌, ◌+◌, ◌≤◌, [], ◌∷◌, Some, None, MatchResult};
+ghost use Rattle.std.specs.Prelude.{◌≡◌, ◌+◌, ◌≤◌, [], ◌∷◌, Some, None};
 ghost use Rattle.lc_scan.specs.Fields.{fields, rest};
 ghost use Rattle.lc_mtl.specs.Settings.{grey};
-ghost use Rattle.lc_scan.specs.LineTests.{first_kind};
+ghost use Rattle.lc_scan.specs.LineTests.{first_kind, IsAnswer, IsPassed};
 ghost use Rattle.lc_mtl.specs.MtlLine.{begun_test, name_test, room_test, form_test, number_test, colour_tests, exponent_tests, tests, share, colour, exponent, entry_by, entry_of, kind_of};
 
 use crate::entry::{Entry, Setting};
@@ -17,9 +17,7 @@ const MOST_MATERIALS: usize = 4_096;
 
 /// Whether a material can begin that has this name, after so many.
 fn test_begin(name: &[u8], so_far: usize) -> Result<(), Kind>
-    ensures { MatchResult result
-        (λ _. first_kind (name_test name.now ∷ room_test so_far ∷ []) ≡ None)
-        (λ kind. first_kind (name_test name.now ∷ room_test so_far ∷ []) ≡ Some kind) }
+    ensures { IsPassed (first_kind (name_test name.now ∷ room_test so_far ∷ [])) result }
 {
     if name.is_empty() {
         return Err(Kind::Name);
@@ -31,9 +29,7 @@ fn test_begin(name: &[u8], so_far: usize) -> Result<(), Kind>
 }
 
 fn test_begun(begun: usize) -> Result<(), Kind>
-    ensures { MatchResult result
-        (λ _. begun_test begun ≡ None)
-        (λ kind. begun_test begun ≡ Some kind) }
+    ensures { IsPassed (begun_test begun) result }
 {
     if begun == 0 {
         return Err(Kind::NoMaterial);
@@ -42,9 +38,7 @@ fn test_begun(begun: usize) -> Result<(), Kind>
 }
 
 fn test_form(value: &[u8]) -> Result<(), Kind>
-    ensures { MatchResult result
-        (λ _. form_test value.now ≡ None)
-        (λ kind. form_test value.now ≡ Some kind) }
+    ensures { IsPassed (form_test value.now) result }
 {
     if value == b"spectral".as_slice() || value == b"xyz".as_slice() {
         return Err(Kind::Colour);
@@ -53,9 +47,7 @@ fn test_form(value: &[u8]) -> Result<(), Kind>
 }
 
 fn one_share(all: &[u8]) -> Result<Colour, Kind>
-    ensures { MatchResult result
-        (λ made. (first_kind (form_test all.now ∷ number_test all.now ∷ []) ≡ None) × (grey (share all.now) ≡ made))
-        (λ kind. first_kind (form_test all.now ∷ number_test all.now ∷ []) ≡ Some kind) }
+    ensures { IsAnswer (first_kind (form_test all.now ∷ number_test all.now ∷ [])) (grey (share all.now)) result }
 {
     test_form(all)?;
     let share = share(all)?;
@@ -63,9 +55,7 @@ fn one_share(all: &[u8]) -> Result<Colour, Kind>
 }
 
 fn three_shares(red: &[u8], green: &[u8], blue: &[u8]) -> Result<Colour, Kind>
-    ensures { MatchResult result
-        (λ made. (first_kind (form_test red.now ∷ number_test red.now ∷ number_test green.now ∷ number_test blue.now ∷ []) ≡ None) × (record { r = share red.now; g = share green.now; b = share blue.now } ≡ made))
-        (λ kind. first_kind (form_test red.now ∷ number_test red.now ∷ number_test green.now ∷ number_test blue.now ∷ []) ≡ Some kind) }
+    ensures { IsAnswer (first_kind (form_test red.now ∷ number_test red.now ∷ number_test green.now ∷ number_test blue.now ∷ [])) (record { r = share red.now; g = share green.now; b = share blue.now }) result }
 {
     test_form(red)?;
     let r = share(red)?;
@@ -76,9 +66,7 @@ fn three_shares(red: &[u8], green: &[u8], blue: &[u8]) -> Result<Colour, Kind>
 
 /// The colour of the values of a line: one share for all channels, or three.
 fn colour(values: &mut Fields) -> Result<Colour, Kind>
-    ensures { MatchResult result
-        (λ made. (first_kind (colour_tests values.old) ≡ None) × (colour values.old ≡ made))
-        (λ kind. first_kind (colour_tests values.old) ≡ Some kind) }
+    ensures { IsAnswer (first_kind (colour_tests values.old)) (colour values.old) result }
 {
     let Some(first) = values.next_field() else {
         return Err(Kind::Colour);
@@ -94,9 +82,7 @@ fn colour(values: &mut Fields) -> Result<Colour, Kind>
 
 /// The exponent of the values of a line.
 fn exponent(values: &mut Fields) -> Result<u32, Kind>
-    ensures { MatchResult result
-        (λ made. (first_kind (exponent_tests values.old) ≡ None) × (exponent values.old ≡ made))
-        (λ kind. first_kind (exponent_tests values.old) ≡ Some kind) }
+    ensures { IsAnswer (first_kind (exponent_tests values.old)) (exponent values.old) result }
 {
     let Some(value) = values.next_field() else {
         return Err(Kind::Number);
@@ -113,9 +99,7 @@ fn entry_by(
     begun: usize,
 ) -> Result<Entry, Kind>
     requires { held + begun ≤ 4096 }
-    ensures { MatchResult result
-        (λ entry. (first_kind (tests held begun keyword name.now values.old) ≡ None) × (entry_by keyword values.old ≡ entry))
-        (λ kind. first_kind (tests held begun keyword name.now values.old) ≡ Some kind) }
+    ensures { IsAnswer (first_kind (tests held begun keyword name.now values.old)) (entry_by keyword values.old) result }
 {
     match keyword {
         Keyword::Material => {
@@ -145,9 +129,7 @@ fn entry_by(
 #[tactic(auto, unfolding(crate::specs::MtlLine::kind_of, crate::specs::MtlLine::entry_of))]
 pub fn entry_in(line: &[u8], held: usize, begun: usize) -> Result<Option<Entry>, Kind>
     requires { held + begun ≤ 4096 }
-    ensures { MatchResult result
-        (λ entry. (kind_of held begun (rest line.now) (fields line.now) ≡ None) × (entry_of (fields line.now) ≡ entry))
-        (λ kind. kind_of held begun (rest line.now) (fields line.now) ≡ Some kind) }
+    ensures { IsAnswer (kind_of held begun (rest line.now) (fields line.now)) (entry_of (fields line.now)) result }
 {
     let mut values = Fields::new(line);
     let Some(word) = values.next_field() else {

@@ -1,6 +1,7 @@
 // The numbers of a line.
-ghost use Rattle.std.specs.Prelude.{◌≡◌, ◌<◌, ◌^◌, Some, None, IfOk, MatchResult};
+ghost use Rattle.std.specs.Prelude.{◌<◌, ◌^◌, IfOk};
 ghost use Rattle.lc_mtl.specs.MtlLine.{number_test, units, share, exponent_of};
+ghost use Rattle.lc_scan.specs.LineTests.{IsAnswer};
 
 use crate::kind::Kind;
 use lc_scan::decimal;
@@ -12,9 +13,7 @@ const MOST_EXPONENT: u64 = 1_000;
 
 /// The units of a number that is not below 0.
 fn units(field: &[u8]) -> Result<u64, Kind>
-    ensures value { MatchResult result
-        (λ n. (number_test field.now ≡ None) × (units field.now ≡ n))
-        (λ kind. number_test field.now ≡ Some kind) }
+    ensures value { IsAnswer (number_test field.now) (units field.now) result }
     ensures range { IfOk result (λ n. n < 2 ^ 63) }
 {
     match decimal(field) {
@@ -32,9 +31,7 @@ fn units(field: &[u8]) -> Result<u64, Kind>
 /// A share of light, which is at most the whole.
 #[tactic(auto, unfolding(crate::specs::MtlLine::share))]
 pub fn share(field: &[u8]) -> Result<u32, Kind>
-    ensures { MatchResult result
-        (λ n. (number_test field.now ≡ None) × (share field.now ≡ n))
-        (λ kind. number_test field.now ≡ Some kind) }
+    ensures { IsAnswer (number_test field.now) (share field.now) result }
 {
     let units = units(field)?;
     Ok(units.min(WHOLE_SHARE) as u32)
@@ -43,9 +40,7 @@ pub fn share(field: &[u8]) -> Result<u32, Kind>
 /// An exponent: the nearest whole number to a number of units, halves up, and at most 1000.
 #[tactic(auto, unfolding(crate::specs::MtlLine::exponent_of))]
 pub fn nearest_exponent(field: &[u8]) -> Result<u32, Kind>
-    ensures { MatchResult result
-        (λ n. (number_test field.now ≡ None) × (exponent_of field.now ≡ n))
-        (λ kind. number_test field.now ≡ Some kind) }
+    ensures { IsAnswer (number_test field.now) (exponent_of field.now) result }
 {
     let units = units(field)?;
     let nearest = (units + 5_000) / 10_000;

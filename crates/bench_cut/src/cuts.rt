@@ -1,6 +1,5 @@
 // Cuts at many spots.
 ghost use Rattle.std.specs.Prelude.{◌≡◌, ◌≤◌, ◌<◌};
-ghost use Rattle.lc_cut.specs.Forest.{light_count, lights_of};
 
 use crate::inputs::Random;
 use lc_cut::{Ask, Bench, Forest, cut};
@@ -32,7 +31,6 @@ fn add_cut<L: Ledger>(
     blank: Blank,
 ) -> Sums
     requires bench { bench.old ≡ 1000 }
-    requires few { light_count (lights_of forest.now) ≤ 65536 }
     requires name { blank.name ≡ L.name }
     requires parts { blank.parts ≡ L.parts }
     requires some { 0 < blank.parts }
@@ -65,7 +63,6 @@ pub fn add_cuts(
     spots: u32,
 ) -> Sums
     requires bench { bench.old ≡ 1000 }
-    requires few { light_count (lights_of forest.now) ≤ 65536 }
     ensures { bench.new ≡ bench.old }
 {
     let mut sums = Sums { evals: 0, light: 0 };

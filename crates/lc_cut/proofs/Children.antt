@@ -1,5 +1,5 @@
 -- What is found of the nodes of a tree, and which child takes over a factor.
-use Rattle.std.proofs.Common.{◌≡◌, ℕ, suc, ◌+◌, ◌*◌, ◌<◌, inl, inr, List, [], Option, None, Some, slice_get, refl, ap, sym, subst, ◌∙◌, arith, add-one, IsSomeAnd}
+use Rattle.std.proofs.Common.{◌≡◌, ℕ, suc, ◌+◌, ◌*◌, ◌<◌, inl, inr, List, Option, None, Some, slice_get, refl, ap, sym, subst, ◌∙◌, arith, add-one, IsSomeAnd}
 use Rattle.std.proofs.lemmas.Option.{same_Some}
 use Rattle.lc_num.specs.declared.channels.Rgb.{Rgb}
 use Rattle.lc_num.specs.declared.rules.Rule.{Rule}

@@ -1,5 +1,5 @@
 -- The nodes of a tree: neither estimate nor sum is above the top, and they differ by at most the bound.
-use Rattle.std.proofs.Common.{◌≡◌, ℕ, ◌+◌, ◌*◌, ◌≤◌, List, [], ◌∷◌, Some, sum_by, refl, arith, ap, ◌∙◌}
+use Rattle.std.proofs.Common.{◌≡◌, ℕ, ◌+◌, ◌*◌, ◌≤◌, List, Some, sum_by, arith, ap, ◌∙◌}
 use Rattle.std.proofs.Math.Nat.{mul-le-mul_right}
 use Rattle.lc_num.specs.declared.channels.Rgb.{Rgb}
 use Rattle.lc_num.specs.declared.channels.Power.{Power}
@@ -8,7 +8,6 @@ use Rattle.lc_num.specs.declared.rules.Rule.TheVariants as rule
 use Rattle.lc_geom.specs.declared.triangle.Tri.{Tri}
 use Rattle.lc_terms.specs.Channels.{IsAtMost}
 use Rattle.lc_terms.specs.Kind.{Meaning, Laws}
-use Rattle.lc_terms.specs.SeenLaws.{black-below}
 use Rattle.lc_terms.specs.Spot.{IsSpot}
 use Rattle.lc_terms.specs.declared.spot.Spot.{Spot}
 use Rattle.lc_tree.specs.Node.{Node, leaf, fork, leaf_count, node_at, members, clump_of}
@@ -18,7 +17,7 @@ use Rattle.lc_tree.proofs.NodeLaws.{leaf_for_each, node_every}
 use Rattle.lc_rated.specs.Cuts.{apart}
 use Rattle.lc_rated.specs.LitTrees.{red, green, blue}
 use Rattle.lc_cut.specs.Contribution.{contribution}
-use Rattle.lc_cut.specs.Lit.{channel_bound, est_of, light_at, top_of, IsBoundedNode}
+use Rattle.lc_cut.specs.Lit.{est_of, light_at, top_of, IsBoundedNode}
 use Rattle.lc_cut.proofs.LitLaws.{IsChannel, red_channel, green_channel, blue_channel, bound_covers, bound_sharper, est_below, full_members, sum_below}
 
 apart_within : (x y n : ℕ) → x ≤ y + n → y ≤ x + n → apart x y ≤ n

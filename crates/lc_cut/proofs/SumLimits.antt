@@ -13,8 +13,7 @@ use Rattle.lc_rated.specs.Cuts.{Placed, AreLimited, EachNode, refinements, cut_a
 use Rattle.lc_rated.proofs.CutSums.{full-cons, leaf_sum-cons, each_of_trees}
 use Rattle.lc_rated.proofs.CutLimits.{IsNodeLimited, totals_small}
 use Rattle.lc_cut.specs.Contribution.{plain}
-use Rattle.lc_cut.specs.declared.forest.Forest.{Forest}
-use Rattle.lc_cut.specs.Forest.{IsForest, lights_of, trees_of}
+use Rattle.lc_cut.specs.Forest.{ForestParts, IsForest, lights_of, trees_of}
 use Rattle.lc_cut.proofs.Whole.{trees_limited, trees_full}
 
 below : (n : ℕ) → n < 2 ^ 117 → n ≤ 2 ^ 117 - 1
@@ -66,6 +65,6 @@ full_within : (trees : Trees) → AreLimited trees → IsRgbWithin (2 ^ 117 - 1)
 full_within trees h = within _ _ _ (full_small red trees h.red h.few) (full_small green trees h.green h.few) (full_small blue trees h.blue h.few)
 
 -- and so the sum over all lights
-pub plain_within : (ts : List Tri) (spot : Spot) (forest : Forest) → IsSpot spot → IsForest forest → IsRgbWithin (2 ^ 117 - 1) (plain ts spot (lights_of forest))
+pub plain_within : (ts : List Tri) (spot : Spot) (forest : ForestParts) → IsSpot spot → IsForest forest → IsRgbWithin (2 ^ 117 - 1) (plain ts spot (lights_of forest))
 plain_within ts spot forest hs h =
     subst (IsRgbWithin (2 ^ 117 - 1)) (trees_full ts spot hs rule.One forest h) (full_within (trees_of ts spot rule.One forest) (trees_limited ts spot hs rule.One forest h))

@@ -23,10 +23,9 @@ use Rattle.lc_rated.specs.LitTrees as lits
 use Rattle.lc_rated.specs.Cuts.{AreLimited, IsNear, answer, roots_of, leaf_sum, full_sum, full_light}
 use Rattle.lc_rated.proofs.CutSums.{count_of, tree_sum-roots_of}
 use Rattle.lc_rated.proofs.CutSequence.{near}
-use Rattle.lc_cut.specs.declared.forest.Forest.{Forest}
 use Rattle.lc_cut.specs.Contribution.{contribution, plain}
 use Rattle.lc_cut.specs.Lit.{lit_root}
-use Rattle.lc_cut.specs.Forest.{IsForest, lights_of, trees_of}
+use Rattle.lc_cut.specs.Forest.{ForestParts, IsForest, lights_of, trees_of}
 use Rattle.lc_cut.proofs.LitLaws.{IsChannel, red_channel, green_channel, blue_channel, lit_bounded, lit_limited, leaves_lit, full_members}
 
 -- one tree of any kind
@@ -59,7 +58,7 @@ same_rgb : (r g b r' g' b' : ℕ) → r ≡ r' → g ≡ g' → b ≡ b' → ◌
 same_rgb r g b r' g' b' e f h = cc
 
 -- the three trees of a forest
-module _ (ts : List Tri) (spot : Spot) (hs : IsSpot spot) (r : Rule) (forest : Forest) (h : IsForest forest) where
+module _ (ts : List Tri) (spot : Spot) (hs : IsSpot spot) (r : Rule) (forest : ForestParts) (h : IsForest forest) where
   each_bounded : (c : Rgb → ℕ) (w : Power → ℕ) → IsChannel c w → EachTree (IsBounded c) (trees_of ts spot r forest)
   each_bounded c w ch = record {
     omni = bounded omni_meaning omni_laws ts spot hs r forest.omni.lights c w ch forest.omni.root h.omni;

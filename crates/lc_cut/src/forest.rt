@@ -16,14 +16,27 @@ use lc_rated::{Answer, best_cut};
 use lc_terms::Spot;
 use lc_tree::Tree;
 use std::alloc::Global;
+use std::marker::Model;
 use std::sync::ledger::Ledger;
 
-/// The lights of a scene, each kind in a tree of its own.
+/// The lights of a scene, at most 65,536, each kind in a tree of its own, in which each light stands in exactly one leaf.
 #[derive(Drop)]
 pub struct Forest {
     pub omni: Tree<OmniKind>,
     pub oriented: Tree<OrientedKind>,
     pub sun: Tree<SunKind>,
+}
+
+impl Model for Forest {
+    ghost use Rattle.lc_cut.specs.Forest.{ForestParts, IsForest, coded_parts};
+
+    ghost Value = { ForestParts };
+
+    ghost coded = { coded_parts };
+
+    ghost view = { λ f. record { omni = f.omni; oriented = f.oriented; sun = f.sun } };
+
+    ghost invariant = { λ f. IsForest (record { omni = f.omni; oriented = f.oriented; sun = f.sun }) };
 }
 
 impl Forest {
@@ -60,16 +73,6 @@ pub struct Ask {
 /// The working memory of cuts, seen by contracts as the greatest size that it is made for.
 pub type Bench = lc_rated::Bench<Rgb>;
 
-/// What the three trees keep, which each says beside its count.
-fn known(forest: &Forest)
-    requires { light_count (lights_of forest.now) ≤ 65536 }
-    ensures { IsForest forest.now }
-{
-    forest.omni.count();
-    forest.oriented.count();
-    forest.sun.count();
-}
-
 /// The light at a spot among the triangles of a scene, by the best-first cut through the three trees: the answer of
 /// the first cut whose bound is at most `permille` thousandths of its estimate in each channel, or that has the greatest
 /// size. Each root and each refinement evaluates one light, which counts one step. It takes no memory.
@@ -82,7 +85,6 @@ pub fn cut<T: Triangles, L: Ledger>(
     steps: &mut Steps<L>,
 ) -> Answer
     requires bench { bench.old ≡ ask.size }
-    requires few { light_count (lights_of forest.now) ≤ 65536 }
     requires spot { IsSpot spot.now }
     requires least { 3 ≤ ask.size }
     requires permille { ask.permille ≤ 1000 }
@@ -97,9 +99,10 @@ pub fn cut<T: Triangles, L: Ledger>(
     ensures steps { steps.new ≡ steps.old + result.evals }
     ensures bench { bench.new ≡ bench.old }
 {
-    known(forest);
     let lit = LitForest {
-        forest,
+        omni: &forest.omni,
+        oriented: &forest.oriented,
+        sun: &forest.sun,
         spot,
         scene,
         rule: ask.rule,

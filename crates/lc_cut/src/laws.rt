@@ -13,9 +13,8 @@ ghost use Rattle.lc_terms.specs.declared.spot.Spot.{Spot};
 ghost use Rattle.lc_tree.specs.Node.{Node, node_at};
 ghost use Rattle.lc_tree.specs.Rows.{IsTree};
 ghost use Rattle.lc_rated.specs.Cuts.{IsFraction, IsNear, answer, cut_at, greatest_key, roots_of, totals_of};
-ghost use Rattle.lc_cut.specs.declared.forest.Forest.{Forest};
 ghost use Rattle.lc_cut.specs.Contribution.{plain};
-ghost use Rattle.lc_cut.specs.Forest.{IsForest, forest_of, lights_of, trees_of};
+ghost use Rattle.lc_cut.specs.Forest.{ForestParts, IsForest, forest_of, lights_of, trees_of};
 ghost use Rattle.lc_cut.specs.Lit.{est_of, light_at, IsBoundedNode};
 
 use lc_terms::Kind;
@@ -41,17 +40,17 @@ pub fn nodes_within_bounds<K: Kind>()
 /// shapes, the estimate differs from the sum over all lights by at most the bound in each channel, and the bound is within the
 /// permille of the estimate unless the cut has the greatest size.
 pub fn distance_to_all_lights()
-    ensures near { (size permille : ℕ) (ts : List Tri) (spot : Spot) (r : Rule) (forest : Forest) → IsSpot spot → IsForest forest → IsNear (plain ts spot (lights_of forest)) (answer size permille (trees_of ts spot r forest)) }
-    ensures fraction { (size permille : ℕ) (ts : List Tri) (spot : Spot) (r : Rule) (forest : Forest) → 3 ≤ size → ((answer size permille (trees_of ts spot r forest)).size ≡ size) ⊎ IsFraction permille (answer size permille (trees_of ts spot r forest)) }
+    ensures near { (size permille : ℕ) (ts : List Tri) (spot : Spot) (r : Rule) (forest : ForestParts) → IsSpot spot → IsForest forest → IsNear (plain ts spot (lights_of forest)) (answer size permille (trees_of ts spot r forest)) }
+    ensures fraction { (size permille : ℕ) (ts : List Tri) (spot : Spot) (r : Rule) (forest : ForestParts) → 3 ≤ size → ((answer size permille (trees_of ts spot r forest)).size ≡ size) ⊎ IsFraction permille (answer size permille (trees_of ts spot r forest)) }
 {}
 
 /// At every valid spot among whatever triangles, under each rule, and for every three trees over valid lights, whatever their
 /// shapes, the sums of the estimates and of the bounds of each cut are below 2^117 in each channel, and so is the sum over all lights.
 /// A thousand times such a sum is below 2^127, and every key of a cut is below 2^119.
 pub fn sums_fit()
-    ensures est { (ts : List Tri) (spot : Spot) (r : Rule) (forest : Forest) (k : ℕ) → IsSpot spot → IsForest forest → IsRgbWithin (2 ^ 117 - 1) (totals_of (cut_at (roots_of (trees_of ts spot r forest)) k)).est }
-    ensures bound { (ts : List Tri) (spot : Spot) (r : Rule) (forest : Forest) (k : ℕ) → IsSpot spot → IsForest forest → IsRgbWithin (2 ^ 117 - 1) (totals_of (cut_at (roots_of (trees_of ts spot r forest)) k)).bound }
-    ensures lights { (ts : List Tri) (spot : Spot) (forest : Forest) → IsSpot spot → IsForest forest → IsRgbWithin (2 ^ 117 - 1) (plain ts spot (lights_of forest)) }
-    ensures key { (ts : List Tri) (spot : Spot) (r : Rule) (forest : Forest) (k : ℕ) → IsSpot spot → IsForest forest → greatest_key (cut_at (roots_of (trees_of ts spot r forest)) k) < 2 ^ 119 }
+    ensures est { (ts : List Tri) (spot : Spot) (r : Rule) (forest : ForestParts) (k : ℕ) → IsSpot spot → IsForest forest → IsRgbWithin (2 ^ 117 - 1) (totals_of (cut_at (roots_of (trees_of ts spot r forest)) k)).est }
+    ensures bound { (ts : List Tri) (spot : Spot) (r : Rule) (forest : ForestParts) (k : ℕ) → IsSpot spot → IsForest forest → IsRgbWithin (2 ^ 117 - 1) (totals_of (cut_at (roots_of (trees_of ts spot r forest)) k)).bound }
+    ensures lights { (ts : List Tri) (spot : Spot) (forest : ForestParts) → IsSpot spot → IsForest forest → IsRgbWithin (2 ^ 117 - 1) (plain ts spot (lights_of forest)) }
+    ensures key { (ts : List Tri) (spot : Spot) (r : Rule) (forest : ForestParts) (k : ℕ) → IsSpot spot → IsForest forest → greatest_key (cut_at (roots_of (trees_of ts spot r forest)) k) < 2 ^ 119 }
     ensures thousandfold { (n : ℕ) → n < 2 ^ 117 → 1000 * n < 2 ^ 127 }
 {}

@@ -1,6 +1,5 @@
 // Cuts worked out by hand, at a white spot at the origin that faces up.
 ghost use Rattle.std.specs.Prelude.{◌≡◌, ◌<◌, ◌≤◌, length};
-ghost use Rattle.lc_cut.specs.Forest.{light_count, lights_of};
 
 use crate::{Answer, Ask, Bench, Forest, cut};
 use lc_geom::{Hit, Triangles};
@@ -56,7 +55,6 @@ fn count<L: Ledger>(
     blank: Blank,
 ) -> Answer
     requires bench { bench.old ≡ ask.size }
-    requires few { light_count (lights_of forest.now) ≤ 65536 }
     requires permille { ask.permille ≤ 1000 }
     requires least { 3 ≤ ask.size }
     requires name { blank.name ≡ L.name }
@@ -82,7 +80,6 @@ fn count<L: Ledger>(
 
 fn look(bench: &mut Bench, forest: &Forest, scene: &Counting, ask: Ask) -> Answer
     requires bench { bench.old ≡ ask.size }
-    requires few { light_count (lights_of forest.now) ≤ 65536 }
     requires permille { ask.permille ≤ 1000 }
     requires least { 3 ≤ ask.size }
     ensures { bench.new ≡ bench.old }

@@ -13,8 +13,7 @@ use Rattle.lc_mtl.specs.declared.material.Material.{Material}
 use Rattle.lc_obj.specs.Meshes.{IsFace, IsMesh}
 use Rattle.lc_obj.specs.declared.mesh.Face.{Face}
 use Rattle.lc_obj.specs.declared.mesh.Mesh.{Mesh}
-use Rattle.lc_cut.specs.Forest.{forest_of}
-use Rattle.lc_cut.specs.declared.forest.Forest.{Forest}
+use Rattle.lc_cut.specs.Forest.{ForestParts, forest_of}
 use Rattle.lc_cut.proofs.Building.{forest_of_is}
 use Rattle.lc_sample.specs.declared.surface.Reflectance.{Reflectance}
 use Rattle.lc_sample.specs.declared.surface.Surface.{Surface}
@@ -123,13 +122,13 @@ pub surfaces_all : (names : List (List ℕ)) (items : List Material) (mesh : Mes
 surfaces_all names items mesh faces i xs past same so_far =
     so_far ∙ ap (map (surface_of names items)) (take_all i faces past ∙ same)
 
-pub scene_is : (mesh : Mesh) (items : List Material) (lights : Lights) (seed : ℕ) (xs : List Surface) (forest : Forest) → xs ≡ map (surface_of mesh.names items) mesh.faces → forest ≡ forest_of seed lights
+pub scene_is : (mesh : Mesh) (items : List Material) (lights : Lights) (seed : ℕ) (xs : List Surface) (forest : ForestParts) → xs ≡ map (surface_of mesh.names items) mesh.faces → forest ≡ forest_of seed lights
     → ◌≡◌ {A = SceneParts} (record { surfaces = xs; forest = forest }) (scene_of mesh items lights seed)
 unfolding scene_of
 scene_is mesh items lights seed xs forest hx hf =
-    ap₂ (λ (ys : List Surface) (f : Forest). let p : SceneParts = record { surfaces = ys; forest = f } in p) hx hf
+    ap₂ (λ (ys : List Surface) (f : ForestParts). let p : SceneParts = record { surfaces = ys; forest = f } in p) hx hf
 
-pub scene_valid : (mesh : Mesh) (items : List Material) (lights : Lights) (seed : ℕ) (xs : List Surface) (forest : Forest) → xs ≡ map (surface_of mesh.names items) mesh.faces → forest ≡ forest_of seed lights → IsMesh mesh → AreMaterials items → AreLights lights
+pub scene_valid : (mesh : Mesh) (items : List Material) (lights : Lights) (seed : ℕ) (xs : List Surface) (forest : ForestParts) → xs ≡ map (surface_of mesh.names items) mesh.faces → forest ≡ forest_of seed lights → IsMesh mesh → AreMaterials items → AreLights lights
     → IsScene (record { surfaces = xs; forest = forest })
 scene_valid mesh items lights seed xs forest hx hf hm hi hl =
     subst IsScene (sym (scene_is mesh items lights seed xs forest hx hf)) (scene_of_is mesh items lights seed hm hi hl)

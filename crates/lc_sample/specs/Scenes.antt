@@ -5,8 +5,7 @@ use Rattle.lc_geom.specs.declared.triangle.Tri.{Tri}
 use Rattle.lc_obj.specs.declared.mesh.Mesh.{Mesh}
 use Rattle.lc_mtl.specs.declared.material.Material.{Material}
 use Rattle.lc_light.specs.declared.lights.Lights.{Lights}
-use Rattle.lc_cut.specs.Forest.{IsForest, forest_of}
-use Rattle.lc_cut.specs.declared.forest.Forest.{Forest}
+use Rattle.lc_cut.specs.Forest.{ForestParts, IsForest, forest_of}
 use Rattle.lc_cut.specs.contracts.forest.Forest as forests
 use Rattle.lc_sample.specs.declared.surface.Surface.{Surface}
 use Rattle.lc_sample.specs.contracts.surface.Surface as surfaces
@@ -15,12 +14,12 @@ use Rattle.lc_sample.specs.Surfaces.{IsSurface, surface_of}
 -- the surfaces by the numbers of their triangles, and the trees of the lights
 pub record SceneParts : Type 0 where
   pub surfaces : List Surface
-  pub forest : Forest
+  pub forest : ForestParts
 
 -- how the logic stores them
 abbrev pub coded_parts : Coded SceneParts
 coded_parts =
-    code_by (List Surface × Forest) (coded× (coded_list surfaces.the_row.coded) forests.the_row.coded)
+    code_by (List Surface × ForestParts) (coded× (coded_list surfaces.the_row.coded) forests.the_row.coded)
     (λ s. (s.surfaces, s.forest)) (λ p. record { surfaces = p.0; forest = p.1 }) (λ _. refl)
 
 pub record IsScene (scene : SceneParts) : Type 0 where

@@ -4,7 +4,7 @@ ghost use Rattle.lc_num.specs.Channels.{IsPowerWithin, IsRgbWithin, plus};
 ghost use Rattle.lc_terms.specs.Channels.{by_power};
 ghost use Rattle.lc_terms.specs.Spot.{IsSpot};
 ghost use Rattle.lc_cut.specs.Contribution.{contribution, plain, plain_of};
-ghost use Rattle.lc_cut.specs.Forest.{light_count, lights_of};
+ghost use Rattle.lc_cut.specs.Forest.{lights_of};
 ghost use Rattle.lc_view.specs.Camera.{IsRay};
 ghost use Rattle.lc_sample.specs.Sampled.{light_of};
 
@@ -75,7 +75,6 @@ fn plain_of<K: Kind, T: Triangles>(tree: &Tree<K>, spot: &Spot, scene: &T) -> Rg
 /// The sum over all lights of a forest.
 fn plain_at<T: Triangles>(forest: &Forest, spot: &Spot, scene: &T) -> Rgb
     requires spot { IsSpot spot.now }
-    requires few { light_count (lights_of forest.now) ≤ 65536 }
     ensures value { result ≡ plain (T.list scene.now) spot.now (lights_of forest.now) }
     ensures small { IsRgbWithin (2 ^ 117 - 1) result }
 {

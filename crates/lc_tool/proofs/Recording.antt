@@ -11,8 +11,7 @@ use Rattle.lc_light.proofs.ValidLights.{lights_valid}
 use Rattle.lc_terms.specs.Spot.{IsSpot}
 use Rattle.lc_terms.specs.declared.spot.Spot.{Spot}
 use Rattle.lc_rated.proofs.CutSequence.{fraction, size_most, evals_most}
-use Rattle.lc_cut.specs.declared.forest.Forest.{Forest}
-use Rattle.lc_cut.specs.Forest.{forest_of, trees_of}
+use Rattle.lc_cut.specs.Forest.{ForestParts, forest_of, trees_of}
 use Rattle.lc_cut.proofs.Building.{forest_of_is}
 use Rattle.lc_cut.proofs.Whole.{answer_near}
 use Rattle.lc_tool.specs.declared.status.Status.{Status}
@@ -47,7 +46,7 @@ probe_recorded name place direction files before now steps_before steps_now work
     let given = lights_given name 0 files went.value went.stepped in
     let is : work ≡ probe_work (probe_answer place direction (lights given.text 0)) = sym (ok_same _ _ went.went) ∙ ap (λ l. probe_work (probe_answer place direction l)) (sym given.same) in
     let spot : Spot = probe_spot place direction in
-    let forest : Forest = forest_of 0 (lights given.text 0) in
+    let forest : ForestParts = forest_of 0 (lights given.text 0) in
     let valid : AreLights (lights given.text 0) = lights_valid given.text 0 given.right in
     record {
       text = given.text;

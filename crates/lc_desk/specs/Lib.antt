@@ -5,4 +5,3 @@ pub mod Effects
 pub mod Host
 pub mod Memory
 pub mod System
-pub mod Words

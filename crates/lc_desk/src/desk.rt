@@ -3,9 +3,6 @@ ghost use Rattle.std.specs.Prelude.{◌≡◌, ◌<◌, ◌≤◌, ◌++◌, ◌
 ghost use Rattle.lc_desk.specs.Causes.{Rose};
 ghost use Rattle.lc_desk.specs.Desk.{DeskState, OnlyReads, OnlySlot, CanPut, Told, slot_at, fault_at, opened, appended, TookPart};
 ghost use Rattle.lc_desk.specs.Effects.{CountsPut, CountsRead};
-ghost use Rattle.lc_desk.specs.Words.{slot_word, read_stop_text, put_stop_text};
-
-use std::fmt;
 
 /// What the program writes to.
 #[derive(Clone, Copy, Debug, PartialEq, Eq)]
@@ -18,28 +15,6 @@ pub enum Slot {
     Report,
     /// The line that tells why the program stopped, which is standard error on a real system.
     Note,
-}
-
-impl Slot {
-    /// The slot's name in messages.
-    pub fn as_str(self) -> &'static str
-        ensures { result.now ≡ slot_word self }
-    {
-        match self {
-            Slot::Picture => "picture",
-            Slot::Bounds => "bounds",
-            Slot::Report => "report",
-            Slot::Note => "note",
-        }
-    }
-}
-
-impl fmt::Display for Slot {
-    ghost output = { λ slot. Some (slot_word slot) };
-
-    fn fmt<W: fmt::Write>(&self, f: &mut fmt::Formatter<W>) -> fmt::Result {
-        f.write_str(self.as_str())
-    }
 }
 
 /// Why a file was not read.
@@ -55,29 +30,6 @@ pub enum ReadStop {
     Memory,
 }
 
-impl ReadStop {
-    fn as_str(self) -> &'static str
-        ensures { result.now ≡ read_stop_text self }
-    {
-        match self {
-            ReadStop::Absent => "absent",
-            ReadStop::Long => "longer than the limit",
-            ReadStop::Failed => "read fault",
-            ReadStop::Memory => "out of memory",
-        }
-    }
-}
-
-impl fmt::Display for ReadStop {
-    ghost output = { λ stop. Some (read_stop_text stop) };
-
-    fn fmt<W: fmt::Write>(&self, f: &mut fmt::Formatter<W>) -> fmt::Result {
-        f.write_str(self.as_str())
-    }
-}
-
-impl std::error::Error for ReadStop {}
-
 /// Why a slot was not begun, or did not take a piece.
 #[derive(Clone, Copy, Debug, PartialEq, Eq)]
 pub enum PutStop {
@@ -86,27 +38,6 @@ pub enum PutStop {
     /// There was no memory.
     Memory,
 }
-
-impl PutStop {
-    fn as_str(self) -> &'static str
-        ensures { result.now ≡ put_stop_text self }
-    {
-        match self {
-            PutStop::Failed => "write fault",
-            PutStop::Memory => "out of memory",
-        }
-    }
-}
-
-impl fmt::Display for PutStop {
-    ghost output = { λ stop. Some (put_stop_text stop) };
-
-    fn fmt<W: fmt::Write>(&self, f: &mut fmt::Formatter<W>) -> fmt::Result {
-        f.write_str(self.as_str())
-    }
-}
-
-impl std::error::Error for PutStop {}
 
 /// Files that are read by name, and four slots that are written.
 ///

@@ -1,8 +1,8 @@
 #!/usr/bin/env python3
 """Tells what each crate costs to check: the processor seconds of its proofs, of the proofs of its tests, and of its
 wrong bodies. It runs a command (`rt ci --anew` at the top of the repository, or the words that it was given), looks
-twice a second at the processes of the checker, prints a table in Markdown, and ends with the command's status. What a
-process used within its last half second is not counted.
+twice a second at the processes of the checker below it, prints a table in Markdown, and ends with the command's status.
+What a process used within its last half second is not counted.
 
     tests/cost.py [COMMAND WORD..]
 """
@@ -29,24 +29,49 @@ def checker(process):
 
 
 def used(process):
-    """When a process began, and the seconds that it has used, those of its ended children among them."""
+    """The parent of a process, when it began, and the seconds that it has used."""
     with open(f"/proc/{process}/stat") as file:
         fields = file.read().rsplit(")", 1)[1].split()
-    return fields[19], sum(int(ticks) for ticks in fields[11:15]) / TICKS
+    return fields[1], fields[19], sum(int(ticks) for ticks in fields[11:13]) / TICKS
 
 
-def look(known, seconds):
-    """Brings both tables up to what every process has used until now."""
+def processes():
+    """Every process, with what it has used."""
+    found = {}
     for process in filter(str.isdigit, os.listdir("/proc")):
         try:
-            began, so_far = used(process)
-            key = process, began
-            if key not in known:
-                known[key] = checker(process)
-            if known[key]:
-                seconds[key] = so_far
+            found[process] = used(process)
         except (OSError, IndexError):
             continue
+    return found
+
+
+def line_to(command, process, found):
+    """The process, what started it, and so on down to what the command started; none where the command did not."""
+    line = []
+    while process in found and process != command:
+        line.append(process)
+        process = found[process][0]
+    return line if process == command else []
+
+
+def work(command, process, found):
+    """What a process below the command works for: what it checks, or the nearest of those that started it."""
+    return next(filter(None, map(checker, line_to(command, process, found))), None)
+
+
+def look(command, known, seconds):
+    """Brings both tables up to what every process below the command has used until now."""
+    found = processes()
+    for process, (_, began, so_far) in found.items():
+        key = process, began
+        try:
+            checked = known.get(key) or work(command, process, found)
+        except (OSError, IndexError):
+            continue
+        if checked:
+            known[key] = checked
+            seconds[key] = so_far
 
 
 def table(known, seconds):
@@ -69,7 +94,7 @@ def main():
     started = time.time()
     running = subprocess.Popen(command)
     while running.poll() is None:
-        look(known, seconds)
+        look(str(running.pid), known, seconds)
         time.sleep(0.5)
     print("\n".join(table(known, seconds)))
     print(f"{time.time() - started:,.0f} seconds on {os.cpu_count()} processors")

@@ -1,58 +1,24 @@
 // One failing call at each place of a render and of an audit.
-use crate::tests::serve;
-use lc_desk::{MemoryDesk, Slot};
-use lc_num::Memory;
-use std::alloc::Global;
+use crate::render_tests::{NAMES, REFUSED};
+use crate::tests::{Case, expect, expect_all};
+use std::alloc::AllocGlobal;
 use std::process::Abort;
 use std::test::Fail;
 
 const PICTURE: &[u8] = b"P6\n1 3\n255\n\0\0\0\xE4\xE4\xE4\0\0\0";
 
-const RECORD: &[u8] =
-    b"LCB 1 1 3 1 1000 20\n0 0 0 0 0 0 0 0\n1 1 5242880000000000000000 5242880000000000000000 5242880000000000000000 0 0 0\n0 0 0 0 0 0 0 0\n";
+const RECORD: &str =
+    "LCB 1 1 3 1 1000 20\n0 0 0 0 0 0 0 0\n1 1 5242880000000000000000 5242880000000000000000 5242880000000000000000 0 0 0\n0 0 0 0 0 0 0 0\n";
 
-/// Renders a triangle in the middle of three pixels.
-fn render(alloc: Global, desk: &mut MemoryDesk) -> u8 {
-    serve(alloc, &["render", "j.txt"], desk)
-}
+/// A render of a triangle in the middle of three pixels.
+const RENDER: Case = Case {
+    job: &[NAMES, "eye 0 0 5\nat 0 0 0\nsize 1 3\n"],
+    ..REFUSED
+};
 
-fn desk_of_three(alloc: Global) -> Result<MemoryDesk, Memory> {
-    let mut desk = MemoryDesk::new(alloc);
-    desk.add(
-        "j.txt",
-        b"scene s.obj\nlights l.txt\npicture p.ppm\nbounds b.lcb\neye 0 0 5\nat 0 0 0\nsize 1 3\n",
-    )?;
-    desk.add("s.obj", b"v -1 -1 0\nv 1 -1 0\nv 0 1 0\nf 1 2 3\n")?;
-    desk.add("l.txt", b"point 0 0 1.0016 1 1 1\n")?;
-    Ok(desk)
-}
-
-/// Both files hold so many bytes, the first ones of what they are to hold, and Report holds none.
-fn expect_parts(rt: &impl Abort, call: u64, desk: &MemoryDesk, picture: usize, record: usize) {
-    assert_eq!(rt;
-        desk.told(Slot::Picture).len(),
-        picture,
-        "picture, call {call}"
-    );
-    assert!(rt;
-        PICTURE.starts_with(desk.told(Slot::Picture)),
-        "picture, call {call}"
-    );
-    assert_eq!(rt;
-        desk.told(Slot::Bounds).len(),
-        record,
-        "record, call {call}"
-    );
-    assert!(rt;
-        RECORD.starts_with(desk.told(Slot::Bounds)),
-        "record, call {call}"
-    );
-    assert_eq!(rt; desk.told(Slot::Report), b"".as_slice());
-}
-
-/// The call that fails, the status, the line on Note, and the bytes in Picture and in Bounds. A put that fails takes two
-/// bytes of its piece.
-const STOPS: [(u64, u8, &str, usize, usize); 14] = [
+/// The call that fails, the status, the line on Note, and the bytes in Picture and in Bounds, the first ones of what they
+/// are to hold. A put that fails takes two bytes of its piece.
+const STOPS: &[(u64, u8, &str, usize, usize)] = &[
     (1, 8, "j.txt: read fault\n", 0, 0),
     (2, 8, "s.obj: read fault\n", 0, 0),
     (3, 8, "l.txt: read fault\n", 0, 0),
@@ -69,14 +35,30 @@ const STOPS: [(u64, u8, &str, usize, usize); 14] = [
     (14, 0, "", 20, 131),
 ];
 
+/// What a render leaves where these calls fail.
+fn expect_parts<'a>(
+    rt: &(impl Abort + AllocGlobal),
+    failing: &'a [(u64, u64)],
+    note: &'a str,
+    stop: &'a (u64, u8, &'a str, usize, usize),
+) -> Result<(), Fail> {
+    let (_, status, shows, picture, record) = stop;
+    let case = Case {
+        shows,
+        failing,
+        status: *status,
+        picture: PICTURE.get(..*picture).ok_or("a part of the picture")?,
+        bounds: RECORD.get(..*record).ok_or("a part of the record")?,
+        note,
+        ..RENDER
+    };
+    expect(rt, &case)
+}
+
 #[test]
 fn stops_at_each_call(rt: HostRuntime) -> Result<(), Fail> {
-    for (call, status, note, picture, record) in STOPS {
-        let mut desk = desk_of_three(rt.alloc())?;
-        desk.fail(call, 2)?;
-        assert_eq!(rt; render(rt.alloc(), &mut desk), status, "call {call}");
-        assert_eq!(rt; desk.told(Slot::Note), note.as_bytes(), "call {call}");
-        expect_parts(&rt, call, &desk, picture, record);
+    for stop in STOPS {
+        expect_parts(&rt, &[(stop.0, 2)], stop.2, stop)?;
     }
     Ok(())
 }
@@ -84,72 +66,96 @@ fn stops_at_each_call(rt: HostRuntime) -> Result<(), Fail> {
 /// Where the put on Note fails as well, the status and the files are the same, and Note has the first two bytes of the line.
 #[test]
 fn stops_at_each_call_and_at_the_next(rt: HostRuntime) -> Result<(), Fail> {
-    for (call, status, note, picture, record) in STOPS {
-        if status == 0 {
-            break;
+    for stop in STOPS {
+        if stop.1 != 0 {
+            let note = stop.2.get(..2).ok_or("a part of the line")?;
+            expect_parts(
+                &rt,
+                &[(stop.0, 2), (stop.0.saturating_add(1), 2)],
+                note,
+                stop,
+            )?;
         }
-        let mut desk = desk_of_three(rt.alloc())?;
-        desk.fail(call, 2)?;
-        desk.fail(call.saturating_add(1), 2)?;
-        assert_eq!(rt; render(rt.alloc(), &mut desk), status, "call {call}");
-        assert_eq!(rt; desk.told(Slot::Note).len(), 2, "call {call}");
-        assert!(rt;
-            note.as_bytes().starts_with(desk.told(Slot::Note)),
-            "call {call}"
-        );
-        expect_parts(&rt, call, &desk, picture, record);
     }
     Ok(())
 }
+
+const READ_FAULT: Case = Case {
+    status: 8,
+    ..RENDER
+};
+
+const WRITE_FAULT: Case = Case {
+    status: 9,
+    ..RENDER
+};
+
+const PIECES: &[Case] = &[
+    Case {
+        shows: "the first piece of a read fault, which is taken whole, though its put fails, and nothing after it",
+        failing: &[(1, 100), (2, 100)],
+        note: "j.txt",
+        ..READ_FAULT
+    },
+    Case {
+        shows: "the second piece of a read fault, which is taken whole, though its put fails",
+        failing: &[(1, 100), (3, 100)],
+        note: "j.txt: read fault\n",
+        ..READ_FAULT
+    },
+    Case {
+        shows: "the first piece of a write fault, which is taken whole, though its put fails, and nothing after it",
+        failing: &[(4, 100), (5, 100)],
+        note: "picture:",
+        ..WRITE_FAULT
+    },
+    Case {
+        shows: "the second piece of a write fault, which is taken whole, though its put fails",
+        failing: &[(4, 100), (6, 100)],
+        note: "picture: write fault\n",
+        ..WRITE_FAULT
+    },
+    Case {
+        shows: "the first piece of a read fault, of whose room there is much",
+        failing: &[(1, 1000), (2, 1000)],
+        note: "j.txt",
+        ..READ_FAULT
+    },
+    Case {
+        shows: "the second piece of a read fault, of whose room there is much",
+        failing: &[(1, 1000), (3, 1000)],
+        note: "j.txt: read fault\n",
+        ..READ_FAULT
+    },
+    Case {
+        shows: "the first piece of a write fault, of whose room there is much",
+        failing: &[(4, 1000), (5, 1000)],
+        note: "picture:",
+        ..WRITE_FAULT
+    },
+    Case {
+        shows: "the second piece of a write fault, of whose room there is much",
+        failing: &[(4, 1000), (6, 1000)],
+        note: "picture: write fault\n",
+        ..WRITE_FAULT
+    },
+];
 
 /// The line on Note comes in two pieces: the first up to the file's name, or up to the first blank, and then the rest.
 #[test]
 fn puts_a_line_on_note_in_two_pieces(rt: HostRuntime) -> Result<(), Fail> {
-    for taken in [100, 1000] {
-        for (first, front, whole) in [
-            (1, "j.txt", "j.txt: read fault\n"),
-            (4, "picture:", "picture: write fault\n"),
-        ] {
-            // The first piece is taken whole, though its put fails, and nothing more is put.
-            let mut desk = desk_of_three(rt.alloc())?;
-            desk.fail(first, taken)?;
-            desk.fail(first + 1, taken)?;
-            let _ = render(rt.alloc(), &mut desk);
-            assert_eq!(rt; desk.told(Slot::Note), front.as_bytes());
-            // The second piece is taken whole, though its put fails.
-            let mut desk = desk_of_three(rt.alloc())?;
-            desk.fail(first, taken)?;
-            desk.fail(first + 2, taken)?;
-            let _ = render(rt.alloc(), &mut desk);
-            assert_eq!(rt; desk.told(Slot::Note), whole.as_bytes());
-        }
-    }
-    Ok(())
+    expect_all(&rt, PIECES)
 }
 
-const YES: &[u8] = b"audit yes 3\n";
-
-/// Audits the record of the render of a triangle in the middle of three pixels.
-fn audit(alloc: Global, desk: &mut MemoryDesk) -> u8 {
-    serve(alloc, &["audit", "j.txt", "1"], desk)
-}
-
-fn desk_with_record(alloc: Global) -> Result<MemoryDesk, Memory> {
-    let mut desk = desk_of_three(alloc)?;
-    desk.add("b.lcb", RECORD)?;
-    Ok(desk)
-}
-
-/// Report holds so many bytes, the first ones of what it is to hold, and Picture and Bounds hold none.
-fn expect_report(rt: &impl Abort, call: u64, desk: &MemoryDesk, report: usize) {
-    assert_eq!(rt; desk.told(Slot::Report).len(), report, "call {call}");
-    assert!(rt; YES.starts_with(desk.told(Slot::Report)), "call {call}");
-    assert_eq!(rt; desk.told(Slot::Picture), b"".as_slice());
-    assert_eq!(rt; desk.told(Slot::Bounds), b"".as_slice());
-}
+/// An audit of the record of that render.
+const AUDIT: Case = Case {
+    words: &["audit", "j.txt", "1"],
+    others: &[("b.lcb", &[RECORD])],
+    ..RENDER
+};
 
 /// The call of an audit that fails, the status, the line on Note, and the bytes in Report.
-const AUDIT_STOPS: [(u64, u8, &str, usize); 6] = [
+const AUDIT_STOPS: &[(u64, u8, &str, usize)] = &[
     (1, 8, "j.txt: read fault\n", 0),
     (2, 8, "s.obj: read fault\n", 0),
     (3, 8, "l.txt: read fault\n", 0),
@@ -158,14 +164,31 @@ const AUDIT_STOPS: [(u64, u8, &str, usize); 6] = [
     (6, 0, "", 12),
 ];
 
+/// What an audit leaves where these calls fail. Picture and Bounds hold nothing.
+fn expect_report<'a>(
+    rt: &(impl Abort + AllocGlobal),
+    failing: &'a [(u64, u64)],
+    note: &'a str,
+    stop: &'a (u64, u8, &'a str, usize),
+) -> Result<(), Fail> {
+    let (_, status, shows, report) = stop;
+    let case = Case {
+        shows,
+        failing,
+        status: *status,
+        report: "audit yes 3\n"
+            .get(..*report)
+            .ok_or("a part of the report")?,
+        note,
+        ..AUDIT
+    };
+    expect(rt, &case)
+}
+
 #[test]
 fn stops_an_audit_at_each_call(rt: HostRuntime) -> Result<(), Fail> {
-    for (call, status, note, report) in AUDIT_STOPS {
-        let mut desk = desk_with_record(rt.alloc())?;
-        desk.fail(call, 2)?;
-        assert_eq!(rt; audit(rt.alloc(), &mut desk), status, "call {call}");
-        assert_eq!(rt; desk.told(Slot::Note), note.as_bytes(), "call {call}");
-        expect_report(&rt, call, &desk, report);
+    for stop in AUDIT_STOPS {
+        expect_report(&rt, &[(stop.0, 2)], stop.2, stop)?;
     }
     Ok(())
 }
@@ -173,20 +196,16 @@ fn stops_an_audit_at_each_call(rt: HostRuntime) -> Result<(), Fail> {
 /// Where the put on Note fails as well, the status and Report are the same, and Note has the first two bytes of the line.
 #[test]
 fn stops_an_audit_at_each_call_and_at_the_next(rt: HostRuntime) -> Result<(), Fail> {
-    for (call, status, note, report) in AUDIT_STOPS {
-        if status == 0 {
-            break;
+    for stop in AUDIT_STOPS {
+        if stop.1 != 0 {
+            let note = stop.2.get(..2).ok_or("a part of the line")?;
+            expect_report(
+                &rt,
+                &[(stop.0, 2), (stop.0.saturating_add(1), 2)],
+                note,
+                stop,
+            )?;
         }
-        let mut desk = desk_with_record(rt.alloc())?;
-        desk.fail(call, 2)?;
-        desk.fail(call.saturating_add(1), 2)?;
-        assert_eq!(rt; audit(rt.alloc(), &mut desk), status, "call {call}");
-        assert_eq!(rt; desk.told(Slot::Note).len(), 2, "call {call}");
-        assert!(rt;
-            note.as_bytes().starts_with(desk.told(Slot::Note)),
-            "call {call}"
-        );
-        expect_report(&rt, call, &desk, report);
     }
     Ok(())
 }

@@ -4,6 +4,7 @@ ghost use Rattle.std.proofs.Common.{All};
 ghost use Rattle.lc_num.specs.Vectors.{Within};
 ghost use Rattle.lc_geom.specs.Triangles.{IsTri};
 
+use crate::render_tests::expect_size;
 use crate::tests::serve;
 use lc_desk::{MemoryDesk, Slot};
 use lc_geom::{Tri, Triangles};
@@ -12,57 +13,65 @@ use lc_light::read_lights;
 use lc_make::make;
 use lc_num::{List, Memory, Vec3};
 use lc_obj::read_obj;
-use std::alloc::Global;
+use std::alloc::{AllocGlobal, Global};
 use std::process::Abort;
 use std::test::Fail;
 
 /// A scene was made, whose line on Report begins so.
 fn expect_made(rt: &impl Abort, desk: &MemoryDesk, report: &str) {
+    expect_size(
+        rt,
+        desk,
+        (b"P6\n32 24\n255\n", 13 + 3 * 768),
+        (b"LCB 1 32 24 1 100 20\n", 769),
+    );
+    let told = desk.told(Slot::Report);
     assert!(rt;
-        desk.told(Slot::Report).starts_with(report.as_bytes()),
+        told.starts_with(report.as_bytes()) && told.ends_with(b"\n"),
         "{report}"
     );
-    assert!(rt; desk.told(Slot::Report).ends_with(b"\n"));
-    assert!(rt; desk.told(Slot::Picture).starts_with(b"P6\n32 24\n255\n"));
-    assert_eq!(rt; desk.told(Slot::Picture).len(), 13 + 3 * 768);
-    assert!(rt;
-        desk.told(Slot::Bounds)
-            .starts_with(b"LCB 1 32 24 1 100 20\n")
-    );
-    assert_eq!(rt; lines(desk.told(Slot::Bounds)), 769);
-    assert_eq!(rt; desk.told(Slot::Note), b"".as_slice());
+    assert!(rt; desk.told(Slot::Note).is_empty(), "{report}");
 }
 
-fn lines(text: &[u8]) -> usize {
-    text.iter().filter(|byte| **byte == b'\n').count()
+/// Two desks hold the same picture and record.
+fn expect_same(rt: &impl Abort, one: &MemoryDesk, other: &MemoryDesk) {
+    assert!(rt; one.told(Slot::Picture) == other.told(Slot::Picture));
+    assert!(rt; one.told(Slot::Bounds) == other.told(Slot::Bounds));
 }
+
+/// The desk of a run that is done.
+fn desk_after(rt: &(impl Abort + AllocGlobal), words: &[&str]) -> MemoryDesk {
+    let mut desk = MemoryDesk::new(rt.alloc());
+    assert!(rt; serve(rt.alloc(), words, &mut desk) == 0);
+    desk
+}
+
+/// Numbers of scenes, each with the beginning of the line on Report.
+const MADE: &[(&[&str], &str)] = &[
+    (&["make", "0"], "lights 1513 triangles 14 samples 768 cut "),
+    (
+        &["make", "39"],
+        "lights 1552 triangles 482 samples 768 cut ",
+    ),
+    (
+        &["make", "007"],
+        "lights 1520 triangles 98 samples 768 cut ",
+    ),
+];
 
 /// The texts of some numbers are accepted, and twice the same is made of one.
 #[test]
-fn makes_scenes(rt: HostRuntime) -> Result<(), Fail> {
-    for (number, report) in [
-        ("0", "lights 1513 triangles 14 samples 768 cut "),
-        ("39", "lights 1552 triangles 482 samples 768 cut "),
-        ("007", "lights 1520 triangles 98 samples 768 cut "),
-    ] {
-        let mut first = MemoryDesk::new(rt.alloc());
-        let mut second = MemoryDesk::new(rt.alloc());
-        assert_eq!(rt;
-            serve(rt.alloc(), &["make", number], &mut first),
-            0,
-            "of {number}"
-        );
-        assert_eq!(rt;
-            serve(rt.alloc(), &["make", number], &mut second),
-            0,
-            "of {number}"
-        );
+fn makes_scenes(rt: HostRuntime) {
+    for (words, report) in MADE {
+        let first = desk_after(&rt, words);
+        let second = desk_after(&rt, words);
         expect_made(&rt, &first, report);
-        for slot in [Slot::Picture, Slot::Bounds, Slot::Report] {
-            assert!(rt; first.told(slot) == second.told(slot), "of {number}");
-        }
+        expect_same(&rt, &first, &second);
+        assert!(rt;
+            first.told(Slot::Report) == second.told(Slot::Report),
+            "{report}"
+        );
     }
-    Ok(())
 }
 
 fn desk_with_texts(alloc: Global) -> Result<MemoryDesk, Memory> {
@@ -78,28 +87,22 @@ fn desk_with_texts(alloc: Global) -> Result<MemoryDesk, Memory> {
 /// A render of the same texts gives the same picture and record.
 #[test]
 fn renders_made_texts(rt: HostRuntime) -> Result<(), Fail> {
-    let mut made = MemoryDesk::new(rt.alloc());
-    assert_eq!(rt; serve(rt.alloc(), &["make", "3"], &mut made), 0);
     let mut desk = desk_with_texts(rt.alloc())?;
-    assert_eq!(rt; serve(rt.alloc(), &["render", "made.txt"], &mut desk), 0);
-    assert!(rt; desk.told(Slot::Picture) == made.told(Slot::Picture));
-    assert!(rt; desk.told(Slot::Bounds) == made.told(Slot::Bounds));
+    assert!(rt; serve(rt.alloc(), &["render", "made.txt"], &mut desk) == 0);
+    expect_same(&rt, &desk, &desk_after(&rt, &["make", "3"]));
     Ok(())
 }
 
 /// A refused put of the line on Report leaves the two files whole.
 #[test]
 fn tells_that_report_failed(rt: HostRuntime) -> Result<(), Fail> {
-    let mut made = MemoryDesk::new(rt.alloc());
-    assert_eq!(rt; serve(rt.alloc(), &["make", "0"], &mut made), 0);
     let mut desk = MemoryDesk::new(rt.alloc());
     // Two begins and two headers, a line for each of 768 samples and a row of pixels for each of 24 rows.
     desk.fail(4 + 768 + 24 + 1, 5)?;
-    assert_eq!(rt; serve(rt.alloc(), &["make", "0"], &mut desk), 9);
-    assert_eq!(rt; desk.told(Slot::Report), b"light".as_slice());
-    assert_eq!(rt; desk.told(Slot::Note), b"report: write fault\n".as_slice());
-    assert!(rt; desk.told(Slot::Picture) == made.told(Slot::Picture));
-    assert!(rt; desk.told(Slot::Bounds) == made.told(Slot::Bounds));
+    assert!(rt; serve(rt.alloc(), &["make", "0"], &mut desk) == 9);
+    assert!(rt; desk.told(Slot::Report) == b"light".as_slice());
+    assert!(rt; desk.told(Slot::Note) == b"report: write fault\n".as_slice());
+    expect_same(&rt, &desk, &desk_after(&rt, &["make", "0"]));
     Ok(())
 }
 

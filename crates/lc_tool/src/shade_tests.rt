@@ -7,8 +7,9 @@ use lc_hier::Plain;
 use lc_light::read_lights;
 use lc_num::{Colour, List, Rgb, Rule, Steps, Vec3};
 use lc_terms::Spot;
-use std::alloc::Global;
+use std::alloc::{AllocGlobal, Global};
 use std::marker::Brand;
+use std::process::Abort;
 use std::sync::ledger::{Blank, Ledger};
 use std::test::Fail;
 
@@ -65,46 +66,63 @@ fn light(alloc: Global, text: &[u8]) -> Result<Answer, Fail>
     count::<Brand>(alloc, text, Blank::new(1))
 }
 
-#[test]
-fn counts_only_lights_that_are_seen(rt: HostRuntime) -> Result<(), Fail> {
-    let rows = [
-        // Behind the triangle, in its plane and before it.
-        ("point 0 0 2 1 1 1", 1, 0),
-        ("point 0 0 1 1 1 1", 1, 6_553_600_000_000_000_000_000),
-        ("point 0 0 0.5 1 1 1", 1, 26_214_400_000_000_000_000_000),
-        // Seen through its side and past it.
-        ("point 1 0 2 1 1 1", 1, 0),
-        ("point 1.0002 0 2 1 1 1", 1, 1_172_186_211_738_600_000_000),
-        // Suns, as far away as their targets lie.
-        ("sun 0 0 1 1 1 1", 1, 0),
-        ("sun 1 0 1 1 1 1", 1, 4_634_000_000_000_000_000_000),
-        // The sample of an area light that faces down.
-        ("area 0 0 2 0 0.0001 0 0.0001 0 0 1 1 1 1", 1, 0),
-    ];
-    for (text, size, gray) in rows {
+/// Lights with the size of their cut, the evaluations for it, and their light, which is gray and exact.
+fn expect_lights(
+    rt: &(impl Abort + AllocGlobal),
+    rows: &[(&str, u32, u32, u128)],
+) -> Result<(), Fail> {
+    for (text, size, evals, gray) in rows {
+        assert!(rt; text.len() < 1_000);
         let answer = light(rt.alloc(), text.as_bytes())?;
-        assert_eq!(rt; (answer.size, answer.evals), (size, 1), "{text}");
-        assert_eq!(rt;
-            answer.est,
-            Rgb {
-                r: gray,
-                g: gray,
-                b: gray
-            },
+        assert_eq!(rt; (answer.size, answer.evals), (*size, *evals), "{text}");
+        assert!(rt;
+            answer.est
+                == Rgb {
+                    r: *gray,
+                    g: *gray,
+                    b: *gray
+                },
             "{text}"
         );
-        assert_eq!(rt; answer.bound, Rgb { r: 0, g: 0, b: 0 }, "{text}");
+        assert!(rt; answer.bound == Rgb { r: 0, g: 0, b: 0 }, "{text}");
     }
     Ok(())
 }
 
+const SINGLE: &[(&str, u32, u32, u128)] = &[
+    // Behind the triangle, in its plane and before it.
+    ("point 0 0 2 1 1 1", 1, 1, 0),
+    ("point 0 0 1 1 1 1", 1, 1, 6_553_600_000_000_000_000_000),
+    ("point 0 0 0.5 1 1 1", 1, 1, 26_214_400_000_000_000_000_000),
+    // Seen through its side and past it.
+    ("point 1 0 2 1 1 1", 1, 1, 0),
+    (
+        "point 1.0002 0 2 1 1 1",
+        1,
+        1,
+        1_172_186_211_738_600_000_000,
+    ),
+    // Suns, as far away as their targets lie.
+    ("sun 0 0 1 1 1 1", 1, 1, 0),
+    ("sun 1 0 1 1 1 1", 1, 1, 4_634_000_000_000_000_000_000),
+    // The sample of an area light that faces down.
+    ("area 0 0 2 0 0.0001 0 0.0001 0 0 1 1 1 1", 1, 1, 0),
+];
+
+#[test]
+fn counts_only_lights_that_are_seen(rt: HostRuntime) -> Result<(), Fail> {
+    expect_lights(&rt, SINGLE)
+}
+
+/// A point that is seen and one that is not, and a sun of each sort: of the four leaves two give light.
+const OF_EACH_KIND: &[(&str, u32, u32, u128)] = &[(
+    "point 0 0 2 1 1 1\npoint 0 0 0.5 1 1 1\nsun 0 0 1 1 1 1\nsun 1 0 1 1 1 1\n",
+    4,
+    4,
+    30_848_400_000_000_000_000_000,
+)];
+
 #[test]
 fn adds_what_is_seen_of_each_kind(rt: HostRuntime) -> Result<(), Fail> {
-    // A point that is seen and one that is not, and a sun of each sort: of the four leaves two give light.
-    let text = b"point 0 0 2 1 1 1\npoint 0 0 0.5 1 1 1\nsun 0 0 1 1 1 1\nsun 1 0 1 1 1 1\n";
-    let answer = light(rt.alloc(), text)?;
-    assert_eq!(rt; (answer.size, answer.evals), (4, 4));
-    assert_eq!(rt; answer.est.r, 30_848_400_000_000_000_000_000);
-    assert_eq!(rt; answer.bound.r, 0);
-    Ok(())
+    expect_lights(&rt, OF_EACH_KIND)
 }

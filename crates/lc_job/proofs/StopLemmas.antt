@@ -5,7 +5,7 @@ use Rattle.lc_scan.specs.LineTests.{first_kind}
 use Rattle.lc_scan.specs.Spoken.{spoken}
 use Rattle.lc_scan.proofs.LineTestLemmas.{cons_found, cons_passed}
 use Rattle.lc_job.specs.Drafts.{made, missing_in}
-use Rattle.lc_job.specs.Jobs.{whole_tests}
+use Rattle.lc_job.specs.Jobs.{job_tests}
 use Rattle.lc_job.specs.JobFile.{draft_of, fault_in, first_stop, kind_in, missing}
 use Rattle.lc_job.specs.Kinds.{kind_number}
 use Rattle.lc_job.specs.Stops.{IsFault, IsMissing, IsOfLine}
@@ -37,10 +37,10 @@ missing_first text draft k good d m =
     cons_passed (by_line (fault_in text)) _ (ap by_line good) ∙ cons_found (option_map stop.Missing (missing (spoken text))) _ (stop.Missing k) (ap (option_map stop.Missing) (sym (missing_in-missing (spoken text) draft d) ∙ m))
 
 -- then the tests of the whole
-pub whole_last : (text : List ℕ) (draft : Draft) (job : Job) (o : Option Kind) → fault_in text ≡ None → draft ≡ draft_of (spoken text) → missing_in draft ≡ None → job ≡ made draft → first_kind (whole_tests job) ≡ o → first_stop text ≡ by_whole o
+pub whole_last : (text : List ℕ) (draft : Draft) (job : Job) (o : Option Kind) → fault_in text ≡ None → draft ≡ draft_of (spoken text) → missing_in draft ≡ None → job ≡ made draft → first_kind (job_tests job) ≡ o → first_stop text ≡ by_whole o
 unfolding first_stop
 whole_last text draft job o good d m j e =
-    let own : kind_in text ≡ o = ap (λ (x : Job). first_kind (whole_tests x)) (sym (j ∙ ap made d)) ∙ e in
+    let own : kind_in text ≡ o = ap (λ (x : Job). first_kind (job_tests x)) (sym (j ∙ ap made d)) ∙ e in
     cons_passed (by_line (fault_in text)) _ (ap by_line good) ∙ cons_passed (option_map stop.Missing (missing (spoken text))) _ (ap (option_map stop.Missing) (sym (missing_in-missing (spoken text) draft d) ∙ m))
     ∙ alone (by_whole (kind_in text)) ∙ ap by_whole own
   where

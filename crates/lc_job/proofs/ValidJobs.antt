@@ -16,7 +16,7 @@ use Rattle.lc_scan.proofs.ReaderLemmas.{fault_then-none, first_fault-cons}
 use Rattle.lc_view.specs.Camera.{IsCamera}
 use Rattle.lc_job.specs.Drafts.{camera, made}
 use Rattle.lc_job.specs.Jobs.{IsJob}
-use Rattle.lc_job.specs.JobLine.{amount, amount_tests, are_decimals, are_wholes, decimal_at, is_amount, is_between, is_place, keyword_in, kind_by, kind_of, size, size_tests, tests, values_in, vector, vector_tests, whole_at, whole_tests}
+use Rattle.lc_job.specs.JobLine.{amount, amount_tests, are_decimals, are_wholes, decimal_at, is_amount, is_between, is_place, keyword_in, kind_by, kind_of, size, size_tests, tests, values_in, vector, vector_tests, whole_at, whole_number_tests}
 use Rattle.lc_job.specs.JobFile.{draft_by, draft_of, fault_in, fault_of, is_of, job_in, line_of, said, stood}
 use Rattle.lc_job.specs.Keys.{key_of, word}
 use Rattle.lc_job.specs.Kinds.{kind_number}
@@ -46,7 +46,7 @@ second_passed a b kind e = unless_passed b kind (cons_both_passed (unless b kind
 vector_range : (values : List (List ℕ)) → first_kind (vector_tests values) ≡ None → Within 50_000_000 (vector values)
 vector_range values e = place_within (vector values) (second_passed (unless (are_decimals 3 values) _) (is_place (vector values)) _ e)
 
-whole_range : (least most : ℕ) (values : List (List ℕ)) → first_kind (whole_tests least most values) ≡ None → (least ≤ whole_at 0 values) × (whole_at 0 values ≤ most)
+whole_range : (least most : ℕ) (values : List (List ℕ)) → first_kind (whole_number_tests least most values) ≡ None → (least ≤ whole_at 0 values) × (whole_at 0 values ≤ most)
 whole_range least most values e = between least most (whole_at 0 values) (second_passed (unless (are_wholes 1 values) _) (is_between least most (whole_at 0 values)) _ e)
 
 amount_by : (most : ℕ) (z : ℤ) → is_amount most z ≡ true → (1 ≤ unsigned_abs z) × (unsigned_abs z ≤ most)

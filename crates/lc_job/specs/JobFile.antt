@@ -10,7 +10,7 @@ use Rattle.lc_scan.specs.Spoken.{spoken}
 use Rattle.lc_scan.specs.Faults as faults
 use Rattle.lc_job.specs.Drafts.{made}
 use Rattle.lc_job.specs.JobLine.{amount, keyword_in, kind_of, rule, size, values_in, vector, whole_at}
-use Rattle.lc_job.specs.Jobs.{whole_tests}
+use Rattle.lc_job.specs.Jobs.{job_tests}
 use Rattle.lc_job.specs.Keys.{required, word}
 use Rattle.lc_job.specs.Kinds.{kind_number}
 use Rattle.lc_job.specs.declared.draft.Draft.{Draft}
@@ -85,7 +85,7 @@ missing ls = find (λ k. not (stood ls k)) required
 
 -- the first test of the job as a whole that it fails
 abbrev pub kind_in : List ℕ → Option Kind
-kind_in text = first_kind (whole_tests (job_in text))
+kind_in text = first_kind (job_tests (job_in text))
 
 -- a faulty line comes before a missing keyword, and that before the tests of the whole, which tell of line 0
 unfoldable pub first_stop : List ℕ → Option JobStop

@@ -111,8 +111,8 @@ size_tests values =
 abbrev pub amount_tests : ℕ → List (List ℕ) → List (Option Kind)
 amount_tests most values = unless (are_decimals 1 values) kind.Form ∷ unless (is_amount most (decimal_at 0 values)) kind.Range ∷ []
 
-abbrev pub whole_tests : ℕ → ℕ → List (List ℕ) → List (Option Kind)
-whole_tests least most values = unless (are_wholes 1 values) kind.Form ∷ unless (is_between least most (whole_at 0 values)) kind.Range ∷ []
+abbrev pub whole_number_tests : ℕ → ℕ → List (List ℕ) → List (Option Kind)
+whole_number_tests least most values = unless (are_wholes 1 values) kind.Form ∷ unless (is_between least most (whole_at 0 values)) kind.Range ∷ []
 
 -- the most samples on a side of a pixel
 abbrev pub most_grid : ℕ
@@ -129,12 +129,12 @@ tests key.At name values = vector_tests values
 tests key.Size name values = size_tests values
 tests key.Up name values = vector_tests values
 tests key.View name values = amount_tests 100000 values
-tests key.Grid name values = whole_tests 1 most_grid values
-tests key.Seed name values = whole_tests 0 18_446_744_073_709_551_615 values
-tests key.Error name values = whole_tests 0 1000 values
-tests key.Cut name values = whole_tests 3 65536 values
+tests key.Grid name values = whole_number_tests 1 most_grid values
+tests key.Seed name values = whole_number_tests 0 18_446_744_073_709_551_615 values
+tests key.Error name values = whole_number_tests 0 1000 values
+tests key.Cut name values = whole_number_tests 3 65536 values
 tests key.White name values = amount_tests 100000000 values
-tests key.Rule name values = whole_tests 1 2 values
+tests key.Rule name values = whole_number_tests 1 2 values
 
 abbrev pub kind_by : (Key → Bool) → Option Key → List ℕ → List (List ℕ) → Option Kind
 kind_by stood None name values = Some kind.Keyword

@@ -28,5 +28,5 @@ has_twins job =
     || bytes_eq job.lights job.bounds || bytes_eq job.picture job.bounds
 
 -- the tests of a job as a whole, in their order
-abbrev pub whole_tests : Job → List (Option Kind)
-whole_tests job = unless (looks job.camera) kind.NoView ∷ unless (not (has_twins job)) kind.SameNames ∷ []
+abbrev pub job_tests : Job → List (Option Kind)
+job_tests job = unless (looks job.camera) kind.NoView ∷ unless (not (has_twins job)) kind.SameNames ∷ []

@@ -1,9 +1,9 @@
 // A job file read line by line.
-ghost use Rattle.std.specs.Prelude.{◌≡◌, ◌≤◌, length, Some, None, IfOk, IfErr, MatchResult};
-ghost use Rattle.lc_scan.specs.LineTests.{first_kind};
+ghost use Rattle.std.specs.Prelude.{◌≡◌, ◌≤◌, length, None, IfOk, IfErr};
+ghost use Rattle.lc_scan.specs.LineTests.{first_kind, IsPassed};
 ghost use Rattle.lc_scan.specs.Spoken.{spoken};
 ghost use Rattle.lc_view.specs.Camera.{IsCamera};
-ghost use Rattle.lc_job.specs.Jobs.{IsJob, has_twins, looks, whole_tests};
+ghost use Rattle.lc_job.specs.Jobs.{IsJob, has_twins, looks, job_tests};
 ghost use Rattle.lc_job.specs.JobFile.{draft_of, fault_in, first_stop, job_in};
 ghost use Rattle.lc_job.specs.Stops.{IsFault, IsMissing, IsOfLine};
 
@@ -60,9 +60,7 @@ fn has_twins(job: &Job) -> bool
 
 fn test_whole(job: &Job) -> Result<(), Kind>
     requires { IsJob job.now }
-    ensures { MatchResult result
-        (λ _. first_kind (whole_tests job.now) ≡ None)
-        (λ kind. first_kind (whole_tests job.now) ≡ Some kind) }
+    ensures { IsPassed (first_kind (job_tests job.now)) result }
 {
     if !looks(&job.camera) {
         return Err(Kind::NoView);

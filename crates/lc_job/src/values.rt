@@ -1,10 +1,10 @@
 // The values of a line: its fields after the keyword.
-ghost use Rattle.std.specs.Prelude.{◌≡◌, ◌≢◌, ◌≤◌, ◌<◌, ◌^◌, ◌&&◌, [], ◌∷◌, length, Ok, Some, None, false, is_ok, IfOk, MatchOption, MatchResult, unsigned_abs};
+ghost use Rattle.std.specs.Prelude.{◌≡◌, ◌≢◌, ◌≤◌, ◌<◌, ◌^◌, ◌&&◌, [], ◌∷◌, length, Ok, false, is_ok, IfOk, MatchOption, MatchResult, unsigned_abs};
 ghost use Rattle.lc_num.specs.Vectors.{Within};
 ghost use Rattle.lc_scan.specs.Decimal.{decimal_of};
-ghost use Rattle.lc_scan.specs.LineTests.{first_kind};
+ghost use Rattle.lc_scan.specs.LineTests.{first_kind, IsAnswer};
 ghost use Rattle.lc_scan.specs.Whole.{whole_of};
-ghost use Rattle.lc_job.specs.JobLine.{amount, amount_tests, is_between, is_place, rule, size, size_tests, vector, vector_tests, whole_at, whole_tests};
+ghost use Rattle.lc_job.specs.JobLine.{amount, amount_tests, is_between, is_place, rule, size, size_tests, vector, vector_tests, whole_at, whole_number_tests};
 
 use crate::entry::Size;
 use crate::kind::Kind;
@@ -83,9 +83,7 @@ fn is_side(n: u64) -> bool
 
 /// A place or a direction.
 pub fn vector(values: &mut Fields) -> Result<Vec3, Kind>
-    ensures { MatchResult result
-        (λ v. (first_kind (vector_tests values.old) ≡ None) × (vector values.old ≡ v))
-        (λ kind. first_kind (vector_tests values.old) ≡ Some kind) }
+    ensures { IsAnswer (first_kind (vector_tests values.old)) (vector values.old) result }
 {
     let Some((x, y, z)) = three(values) else {
         return Err(Kind::Form);
@@ -102,9 +100,7 @@ pub fn vector(values: &mut Fields) -> Result<Vec3, Kind>
 
 /// The width and the height of a picture.
 pub fn size(values: &mut Fields) -> Result<Size, Kind>
-    ensures { MatchResult result
-        (λ s. (first_kind (size_tests values.old) ≡ None) × (size values.old ≡ s))
-        (λ kind. first_kind (size_tests values.old) ≡ Some kind) }
+    ensures { IsAnswer (first_kind (size_tests values.old)) (size values.old) result }
 {
     let Some((width, height)) = two(values) else {
         return Err(Kind::Form);
@@ -122,9 +118,7 @@ pub fn size(values: &mut Fields) -> Result<Size, Kind>
 
 /// A decimal from one unit to so many.
 pub fn amount(values: &mut Fields, most: u64) -> Result<u64, Kind>
-    ensures { MatchResult result
-        (λ n. (first_kind (amount_tests most values.old) ≡ None) × (amount values.old ≡ n))
-        (λ kind. first_kind (amount_tests most values.old) ≡ Some kind) }
+    ensures { IsAnswer (first_kind (amount_tests most values.old)) (amount values.old) result }
 {
     let Some(value) = one(values) else {
         return Err(Kind::Form);
@@ -138,9 +132,7 @@ pub fn amount(values: &mut Fields, most: u64) -> Result<u64, Kind>
 
 /// A whole number from the least to the most.
 pub fn whole_within(values: &mut Fields, least: u64, most: u64) -> Result<u64, Kind>
-    ensures value { MatchResult result
-        (λ n. (first_kind (whole_tests least most values.old) ≡ None) × (whole_at 0 values.old ≡ n))
-        (λ kind. first_kind (whole_tests least most values.old) ≡ Some kind) }
+    ensures value { IsAnswer (first_kind (whole_number_tests least most values.old)) (whole_at 0 values.old) result }
     ensures range { IfOk result (λ n. n ≤ most) }
 {
     let Some(value) = one(values) else {
@@ -155,9 +147,7 @@ pub fn whole_within(values: &mut Fields, least: u64, most: u64) -> Result<u64, K
 
 /// The rule of a number, 1 or 2.
 pub fn rule(values: &mut Fields) -> Result<Rule, Kind>
-    ensures { MatchResult result
-        (λ r. (first_kind (whole_tests 1 2 values.old) ≡ None) × (rule values.old ≡ r))
-        (λ kind. first_kind (whole_tests 1 2 values.old) ≡ Some kind) }
+    ensures { IsAnswer (first_kind (whole_number_tests 1 2 values.old)) (rule values.old) result }
 {
     let Some(value) = one(values) else {
         return Err(Kind::Form);

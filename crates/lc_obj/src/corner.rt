@@ -2,7 +2,7 @@
 ghost use Rattle.std.specs.Prelude.{◌≡◌, length, Some, None, MatchResult, option_map, slice_index_or};
 ghost use Rattle.lc_num.specs.Vectors.{zero_vector};
 ghost use Rattle.lc_obj.specs.Corners.{corner_of, corner_tests, index_test, no_uv, optional_test, place_of};
-ghost use Rattle.lc_scan.specs.LineTests.{first_kind};
+ghost use Rattle.lc_scan.specs.LineTests.{first_kind, IsAnswer};
 
 use crate::index::{Index, Indices};
 use crate::kind::Kind;
@@ -19,9 +19,7 @@ pub struct Corner {
 }
 
 fn vector_at(index: Index, given: &[Vec3]) -> Result<Vec3, Kind>
-    ensures { MatchResult result
-        (λ v. (index_test (length given.now) index ≡ None) × (slice_index_or given.now (place_of (length given.now) index) zero_vector ≡ v))
-        (λ kind. index_test (length given.now) index ≡ Some kind) }
+    ensures { IsAnswer (index_test (length given.now) index) (slice_index_or given.now (place_of (length given.now) index) zero_vector) result }
 {
     let at = index.among(given.len())?;
     Ok(given[at])
@@ -56,9 +54,7 @@ fn normal_at(index: Option<Index>, given: &[Vec3]) -> Result<Option<Vec3>, Kind>
 /// What a field of a face names.
 #[tactic(auto, unfolding(crate::specs::Corners::corner_tests, crate::specs::Corners::corner_of))]
 pub fn corner_in(field: &[u8], given: &Tables) -> Result<Corner, Kind>
-    ensures { MatchResult result
-        (λ corner. (first_kind (corner_tests given.now field.now) ≡ None) × (corner_of given.now field.now ≡ corner))
-        (λ kind. first_kind (corner_tests given.now field.now) ≡ Some kind) }
+    ensures { IsAnswer (first_kind (corner_tests given.now field.now)) (corner_of given.now field.now) result }
 {
     let Some(indices) = Indices::of(field) else {
         return Err(Kind::Number);

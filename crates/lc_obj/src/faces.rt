@@ -1,8 +1,8 @@
 // The faces of a line: a fan of triangles.
-ghost use Rattle.std.specs.Prelude.{◌≡◌, ◌-◌, ◌+◌, ◌<◌, ◌≤◌, [], ◌∷◌, ◌++◌, length, drop, filter, Some, None, IfErr, IfOk, OnOk, MatchResult};
+ghost use Rattle.std.specs.Prelude.{◌≡◌, ◌-◌, ◌+◌, ◌<◌, ◌≤◌, [], ◌∷◌, ◌++◌, length, drop, filter, None, IfErr, IfOk, OnOk};
 ghost use Rattle.lc_geom.specs.Triangles.{IsTri};
 ghost use Rattle.lc_obj.specs.Corners.{AreTables, corner_of, corner_tests};
-ghost use Rattle.lc_scan.specs.LineTests.{first_kind};
+ghost use Rattle.lc_scan.specs.LineTests.{first_kind, IsAnswer, IsPassed};
 ghost use Rattle.lc_obj.specs.ObjLine.{corners_tests, face, face_tests, faces_in, field, is_kept, three_normals, three_uvs};
 ghost use Rattle.lc_obj.specs.Readings.{IsLineStop};
 
@@ -68,9 +68,7 @@ fn add(faces: &mut List<Face>, face: Face) -> Result<(), Memory>
 fn corner(values: &mut Fields, given: &Tables) -> Result<Corner, Kind>
     requires { 0 < length values.old }
     ensures rest { values.new ≡ drop 1 values.old }
-    ensures value { MatchResult result
-        (λ corner. (first_kind (corner_tests given.now (field 0 values.old)) ≡ None) × (corner_of given.now (field 0 values.old) ≡ corner))
-        (λ kind. first_kind (corner_tests given.now (field 0 values.old)) ≡ Some kind) }
+    ensures value { IsAnswer (first_kind (corner_tests given.now (field 0 values.old))) (corner_of given.now (field 0 values.old)) result }
 {
     let Some(value) = values.next_field() else {
         return Err(Kind::Number);
@@ -79,9 +77,7 @@ fn corner(values: &mut Fields, given: &Tables) -> Result<Corner, Kind>
 }
 
 fn test_corners(values: &mut Fields, given: &Tables) -> Result<(), Kind>
-    ensures { MatchResult result
-        (λ _. first_kind (corners_tests given.now values.old) ≡ None)
-        (λ kind. first_kind (corners_tests given.now values.old) ≡ Some kind) }
+    ensures { IsPassed (first_kind (corners_tests given.now values.old)) result }
 {
     while let Some(value) = values.next_field() {
         corner_in(value, given)?;

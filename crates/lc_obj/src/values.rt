@@ -1,7 +1,7 @@
 // The numbers of a line, one after the other.
-ghost use Rattle.std.specs.Prelude.{◌≡◌, ◌<◌, ◌≤◌, length, drop, Some, None, IfOk, MatchResult, unsigned_abs};
+ghost use Rattle.std.specs.Prelude.{◌≡◌, ◌<◌, ◌≤◌, length, drop, IfOk, unsigned_abs};
 ghost use Rattle.lc_num.specs.Vectors.{Within};
-ghost use Rattle.lc_scan.specs.LineTests.{first_kind};
+ghost use Rattle.lc_scan.specs.LineTests.{first_kind, IsAnswer};
 ghost use Rattle.lc_obj.specs.ObjLine.{coordinate_test, coordinate_tests, field, number, number_or_0, number_test, number_tests, optional_number_test, uv, uv_tests, vector, vector_tests};
 
 use crate::kind::Kind;
@@ -18,9 +18,7 @@ const MOST_ITEMS: usize = 1_000_000;
 fn coordinate(values: &mut Fields) -> Result<i64, Kind>
     requires { 0 < length values.old }
     ensures rest { values.new ≡ drop 1 values.old }
-    ensures value { MatchResult result
-        (λ z. (coordinate_test (field 0 values.old) ≡ None) × (number 0 values.old ≡ z))
-        (λ kind. coordinate_test (field 0 values.old) ≡ Some kind) }
+    ensures value { IsAnswer (coordinate_test (field 0 values.old)) (number 0 values.old) result }
     ensures range { IfOk result (λ z. unsigned_abs z ≤ 50_000_000) }
 {
     let Some(value) = values.next_field() else {
@@ -41,9 +39,7 @@ fn coordinate(values: &mut Fields) -> Result<i64, Kind>
 fn number(values: &mut Fields) -> Result<i64, Kind>
     requires { 0 < length values.old }
     ensures rest { values.new ≡ drop 1 values.old }
-    ensures value { MatchResult result
-        (λ z. (number_test (field 0 values.old) ≡ None) × (number 0 values.old ≡ z))
-        (λ kind. number_test (field 0 values.old) ≡ Some kind) }
+    ensures value { IsAnswer (number_test (field 0 values.old)) (number 0 values.old) result }
 {
     let Some(value) = values.next_field() else {
         return Err(Kind::Number);
@@ -56,9 +52,7 @@ fn number(values: &mut Fields) -> Result<i64, Kind>
 
 /// The next value as a number, or 0 where there is none.
 fn number_or_0(values: &mut Fields) -> Result<i64, Kind>
-    ensures { MatchResult result
-        (λ z. (optional_number_test values.old ≡ None) × (number_or_0 values.old ≡ z))
-        (λ kind. optional_number_test values.old ≡ Some kind) }
+    ensures { IsAnswer (optional_number_test values.old) (number_or_0 values.old) result }
 {
     let Some(value) = values.next_field() else {
         return Ok(0);
@@ -72,9 +66,7 @@ fn number_or_0(values: &mut Fields) -> Result<i64, Kind>
 #[tactic(auto, unfolding(crate::specs::ObjLine::vector))]
 fn vector(values: &mut Fields) -> Result<Vec3, Kind>
     requires { 3 ≤ length values.old }
-    ensures value { MatchResult result
-        (λ v. (first_kind (coordinate_tests values.old) ≡ None) × (vector values.old ≡ v))
-        (λ kind. first_kind (coordinate_tests values.old) ≡ Some kind) }
+    ensures value { IsAnswer (first_kind (coordinate_tests values.old)) (vector values.old) result }
     ensures range { IfOk result (Within 50_000_000) }
 {
     let x = coordinate(values)?;
@@ -86,9 +78,7 @@ fn vector(values: &mut Fields) -> Result<Vec3, Kind>
 #[tactic(auto, unfolding(crate::specs::ObjLine::uv))]
 fn uv(values: &mut Fields) -> Result<Uv, Kind>
     requires { 1 ≤ length values.old }
-    ensures { MatchResult result
-        (λ place. (first_kind (number_tests values.old) ≡ None) × (uv values.old ≡ place))
-        (λ kind. first_kind (number_tests values.old) ≡ Some kind) }
+    ensures { IsAnswer (first_kind (number_tests values.old)) (uv values.old) result }
 {
     let u = number(values)?;
     let v = number_or_0(values)?;
@@ -100,9 +90,7 @@ fn uv(values: &mut Fields) -> Result<Uv, Kind>
 pub fn vector_after(so_far: usize, values: &mut Fields, count: usize) -> Result<Vec3, Kind>
     requires count { count ≡ length values.old }
     requires few { so_far ≤ 1_000_000 }
-    ensures value { MatchResult result
-        (λ v. (first_kind (vector_tests so_far values.old) ≡ None) × (vector values.old ≡ v))
-        (λ kind. first_kind (vector_tests so_far values.old) ≡ Some kind) }
+    ensures value { IsAnswer (first_kind (vector_tests so_far values.old)) (vector values.old) result }
     ensures range { IfOk result (Within 50_000_000) }
     ensures room { IfOk result (λ _. so_far < 1_000_000) }
 {
@@ -121,9 +109,7 @@ pub fn vector_after(so_far: usize, values: &mut Fields, count: usize) -> Result<
 pub fn uv_after(so_far: usize, values: &mut Fields, count: usize) -> Result<Uv, Kind>
     requires count { count ≡ length values.old }
     requires few { so_far ≤ 1_000_000 }
-    ensures value { MatchResult result
-        (λ place. (first_kind (uv_tests so_far values.old) ≡ None) × (uv values.old ≡ place))
-        (λ kind. first_kind (uv_tests so_far values.old) ≡ Some kind) }
+    ensures value { IsAnswer (first_kind (uv_tests so_far values.old)) (uv values.old) result }
     ensures room { IfOk result (λ _. so_far < 1_000_000) }
 {
     if count == 0 {

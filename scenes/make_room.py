@@ -5,50 +5,8 @@ The room is 6 by 5 metres and 2.8 high, with a table, six chairs, a shelf of boo
 Run it anywhere: it writes beside itself, and always the same bytes.
 """
 import math
-import os
 
-HERE = os.path.dirname(os.path.abspath(__file__))
-
-
-class Mesh:
-    """An OBJ text that grows by boxes, prisms and quadrilaterals."""
-
-    def __init__(self):
-        self.lines = ["# A furnished room, 6 by 5 metres and 2.8 high.", "mtllib room.mtl"]
-        self.count = 0
-        self.triangles = 0
-
-    def use(self, name):
-        self.lines.append(f"usemtl {name}")
-
-    def vertices(self, points):
-        first = self.count + 1
-        for x, y, z in points:
-            self.lines.append(f"v {x:.4f} {y:.4f} {z:.4f}")
-        self.count += len(points)
-        return first
-
-    def face(self, *corners):
-        self.lines.append("f " + " ".join(str(c) for c in corners))
-        self.triangles += len(corners) - 2
-
-    def quad(self, a, b, c, d):
-        k = self.vertices([a, b, c, d])
-        self.face(k, k + 1, k + 2, k + 3)
-
-    def box(self, x, y, z, w, h, d):
-        k = self.vertices([(x + dx * w, y + dy * h, z + dz * d) for dy in (0, 1) for dx, dz in ((0, 0), (1, 0), (1, 1), (0, 1))])
-        for corners in ((0, 1, 2, 3), (7, 6, 5, 4), (0, 4, 5, 1), (1, 5, 6, 2), (2, 6, 7, 3), (3, 7, 4, 0)):
-            self.face(*(k + c for c in corners))
-
-    def prism(self, x, y, z, radius, top, height, sides):
-        """A round body on a regular polygon, which narrows or widens to another radius."""
-        ring = [(math.cos(2 * math.pi * i / sides), math.sin(2 * math.pi * i / sides)) for i in range(sides)]
-        k = self.vertices([(x + radius * c, y, z + radius * s) for c, s in ring] + [(x + top * c, y + height, z + top * s) for c, s in ring])
-        for i in range(sides):
-            j = (i + 1) % sides
-            self.face(k + i, k + sides + i, k + sides + j, k + j)
-        self.face(*(k + sides + i for i in reversed(range(sides))))
+from mesh import Mesh, write_scene
 
 
 def chair(mesh, x, z, turned):
@@ -64,17 +22,17 @@ def chair(mesh, x, z, turned):
 
 
 def build():
-    mesh = Mesh()
+    mesh = Mesh("A furnished room, 6 by 5 metres and 2.8 high.", "room.mtl")
     mesh.use("floor")
-    mesh.quad((-3, 0, -2.5), (-3, 0, 2.5), (3, 0, 2.5), (3, 0, -2.5))
+    mesh.polygon((-3, 0, -2.5), (-3, 0, 2.5), (3, 0, 2.5), (3, 0, -2.5))
     mesh.use("wall")
-    mesh.quad((-3, 2.8, -2.5), (3, 2.8, -2.5), (3, 2.8, 2.5), (-3, 2.8, 2.5))
-    mesh.quad((-3, 0, -2.5), (3, 0, -2.5), (3, 2.8, -2.5), (-3, 2.8, -2.5))
-    mesh.quad((-3, 0, 2.5), (-3, 2.8, 2.5), (3, 2.8, 2.5), (3, 0, 2.5))
+    mesh.polygon((-3, 2.8, -2.5), (3, 2.8, -2.5), (3, 2.8, 2.5), (-3, 2.8, 2.5))
+    mesh.polygon((-3, 0, -2.5), (3, 0, -2.5), (3, 2.8, -2.5), (-3, 2.8, -2.5))
+    mesh.polygon((-3, 0, 2.5), (-3, 2.8, 2.5), (3, 2.8, 2.5), (3, 0, 2.5))
     mesh.use("red")
-    mesh.quad((-3, 0, -2.5), (-3, 2.8, -2.5), (-3, 2.8, 2.5), (-3, 0, 2.5))
+    mesh.polygon((-3, 0, -2.5), (-3, 2.8, -2.5), (-3, 2.8, 2.5), (-3, 0, 2.5))
     mesh.use("green")
-    mesh.quad((3, 0, -2.5), (3, 0, 2.5), (3, 2.8, 2.5), (3, 2.8, -2.5))
+    mesh.polygon((3, 0, -2.5), (3, 0, 2.5), (3, 2.8, 2.5), (3, 2.8, -2.5))
     # the table, with a bowl and six plates
     mesh.use("wood")
     mesh.box(-1.1, 0.72, -0.5, 2.2, 0.05, 1.0)
@@ -177,14 +135,5 @@ white 0.1600
 """
 
 
-def main():
-    mesh = build()
-    texts = {"room.obj": "\n".join(mesh.lines) + "\n", "room.mtl": MATERIALS, "room.lights": lights(), "room.txt": JOB}
-    for name, text in texts.items():
-        with open(os.path.join(HERE, name), "w", newline="\n") as file:
-            file.write(text)
-    print(f"{mesh.triangles} triangles")
-
-
 if __name__ == "__main__":
-    main()
+    write_scene("room", build(), MATERIALS, lights(), JOB)

@@ -1,9 +1,8 @@
 -- What the code of boxes and bounds gives.
 use Rattle.std.proofs.Common.{◌≡◌, ℕ, ◌*◌, arith}
-use Rattle.lc_num.specs.Channels.{black}
+use Rattle.lc_num.specs.Channels.{black, times, by_power}
 use Rattle.lc_num.specs.declared.channels.Rgb.{Rgb}
 use Rattle.lc_num.specs.declared.channels.Power.{Power}
-use Rattle.lc_terms.specs.Channels.{times, by_power}
 use Rattle.lc_bound.specs.Reach.{emitted}
 
 same_channels : (x y z p q r : ℕ) → x ≡ p → y ≡ q → z ≡ r → ◌≡◌ {A = Rgb} (record { r = x; g = y; b = z }) (record { r = p; g = q; b = r })

@@ -1,6 +1,6 @@
 -- The laws of the kind of omnidirectional lights.
 use Rattle.std.proofs.Common.{◌+◌, ◌*◌, ◌^◌, ◌≤◌, arith, le_refl, refl}
-use Rattle.lc_num.specs.Channels.{IsRgbWithin}
+use Rattle.lc_num.specs.Channels.{IsRgbWithin, IsAtMost}
 use Rattle.lc_num.specs.Vectors.{Within, difference, square}
 use Rattle.lc_num.specs.Boxes.{near2}
 use Rattle.lc_num.specs.declared.rules.Rule.{Rule}
@@ -9,7 +9,6 @@ use Rattle.lc_num.specs.declared.vectors.Vec3.{Vec3}
 use Rattle.lc_num.proofs.BoxLemmas.{near2-least}
 use Rattle.lc_light.specs.Lights.{IsOmni}
 use Rattle.lc_light.specs.declared.lights.Omni.{Omni}
-use Rattle.lc_terms.specs.Channels.{IsAtMost}
 use Rattle.lc_terms.specs.Factor.{factor, material}
 use Rattle.lc_terms.specs.Kind.{Laws}
 use Rattle.lc_terms.specs.SeenLaws.{factor-below}

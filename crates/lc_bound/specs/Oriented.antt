@@ -1,6 +1,6 @@
 -- What the kind of oriented lights means.
 use Rattle.std.specs.Prelude.{ℕ, ◌+◌, ◌*◌, ◌≤◌, ◌^◌, min}
-use Rattle.lc_num.specs.Channels.{IsPowerWithin}
+use Rattle.lc_num.specs.Channels.{IsPowerWithin, times, by_power, power_plus}
 use Rattle.lc_num.specs.Cosines.{cos16}
 use Rattle.lc_num.specs.Vectors.{difference, square}
 use Rattle.lc_num.specs.Boxes.{Ends, IsBoxWithin, IsInside, near2}
@@ -10,7 +10,6 @@ use Rattle.lc_num.specs.declared.channels.Power.{Power}
 use Rattle.lc_num.specs.declared.rules.Rule.{Rule}
 use Rattle.lc_light.specs.Lights.{IsOriented}
 use Rattle.lc_light.specs.declared.lights.Oriented.{Oriented}
-use Rattle.lc_terms.specs.Channels.{times, by_power, power_plus}
 use Rattle.lc_terms.specs.Kind.{Meaning}
 use Rattle.lc_terms.specs.declared.spot.Spot.{Spot}
 use Rattle.lc_bound.specs.Hull.{point_box, hull, box_from, box_to}

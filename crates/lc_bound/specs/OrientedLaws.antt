@@ -1,6 +1,6 @@
 -- The laws of the kind of oriented lights.
 use Rattle.std.proofs.Common.{◌+◌, ◌*◌, ◌^◌, ◌≤◌, ◌⊎◌, inl, inr, arith, le_refl, refl}
-use Rattle.lc_num.specs.Channels.{IsRgbWithin}
+use Rattle.lc_num.specs.Channels.{IsRgbWithin, IsAtMost}
 use Rattle.lc_num.specs.Cosines.{cos16}
 use Rattle.lc_num.specs.Vectors.{Within, difference, square}
 use Rattle.lc_num.specs.Boxes.{near2}
@@ -12,7 +12,6 @@ use Rattle.lc_num.proofs.CosineLaw.{cos16-small}
 use Rattle.lc_num.proofs.SquareLemmas.{square_bound, square-turned}
 use Rattle.lc_light.specs.Lights.{IsOriented}
 use Rattle.lc_light.specs.declared.lights.Oriented.{Oriented}
-use Rattle.lc_terms.specs.Channels.{IsAtMost}
 use Rattle.lc_terms.specs.Factor.{factor, material}
 use Rattle.lc_terms.specs.Kind.{Laws}
 use Rattle.lc_terms.specs.SeenLaws.{factor-below}

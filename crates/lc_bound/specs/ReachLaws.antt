@@ -3,7 +3,7 @@ use Rattle.std.proofs.Common.{◌≡◌, ℕ, ◌+◌, ◌*◌, ◌/◌, ◌^◌
 use Rattle.std.proofs.lemmas.Nat.{le-div, mul-le}
 use Rattle.std.proofs.lemmas.Bool.{cases_lt}
 use Rattle.std.proofs.Math.Nat.{div-mul-le_self, le-div_iff_mul-le, mul-div-le, mul-le-mul_left}
-use Rattle.lc_num.specs.Channels.{IsRgbWithin}
+use Rattle.lc_num.specs.Channels.{IsRgbWithin, times, IsAtMost}
 use Rattle.lc_num.specs.Cosines.{cos16}
 use Rattle.lc_num.specs.Powers.{pow16}
 use Rattle.lc_num.specs.Vectors.{square}
@@ -15,7 +15,6 @@ use Rattle.lc_num.specs.declared.rules.Rule.TheVariants as rule
 use Rattle.lc_num.proofs.CosineLaw.{cos16_below_cos_top, cos16_below_emit_top, cos_top-small, emit_top-small}
 use Rattle.lc_num.proofs.CrossLaw.{cos16_below_cos_top2, cos16_below_emit_top2, cos_top2-below, cos_top2-small, emit_top2-below, emit_top2-small}
 use Rattle.lc_num.proofs.PowerLemmas.{pow16-rises, pow16-most}
-use Rattle.lc_terms.specs.Channels.{times, IsAtMost}
 use Rattle.lc_terms.specs.Factor.{material, material_by, reflected}
 use Rattle.lc_terms.specs.SeenLaws.{black-below}
 use Rattle.lc_terms.proofs.Reflecting.{material-dark, material-of_lit}

@@ -1,6 +1,6 @@
 -- What the kind of suns means.
 use Rattle.std.specs.Prelude.{ℕ, ◌+◌, ◌*◌, ◌≤◌, ◌^◌, min, pos, ◌+ℤ◌, ◌*ℤ◌}
-use Rattle.lc_num.specs.Channels.{IsPowerWithin}
+use Rattle.lc_num.specs.Channels.{IsPowerWithin, times, by_power, power_plus}
 use Rattle.lc_num.specs.Vectors.{square}
 use Rattle.lc_num.specs.Boxes.{Ends, IsBoxWithin, IsInside}
 use Rattle.lc_num.specs.declared.vectors.Vec3.{Vec3}
@@ -9,7 +9,6 @@ use Rattle.lc_num.specs.declared.channels.Power.{Power}
 use Rattle.lc_num.specs.declared.rules.Rule.{Rule}
 use Rattle.lc_light.specs.Lights.{IsSun}
 use Rattle.lc_light.specs.declared.lights.Sun.{Sun}
-use Rattle.lc_terms.specs.Channels.{times, by_power, power_plus}
 use Rattle.lc_terms.specs.Kind.{Meaning}
 use Rattle.lc_terms.specs.declared.spot.Spot.{Spot}
 use Rattle.lc_bound.specs.Hull.{point_box, hull}

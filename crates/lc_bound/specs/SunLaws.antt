@@ -2,7 +2,7 @@
 use Rattle.std.proofs.Common.{◌+◌, ◌*◌, ◌^◌, ◌≤◌, ◌⊎◌, inl, inr, le_refl, arith, refl, ℤ, pos, ◌+ℤ◌, ◌*ℤ◌}
 use Rattle.std.specs.Int.RustNames.{unsigned_abs}
 use Rattle.std.proofs.lemmas.Int.{ints}
-use Rattle.lc_num.specs.Channels.{IsRgbWithin}
+use Rattle.lc_num.specs.Channels.{IsRgbWithin, IsAtMost}
 use Rattle.lc_num.specs.Vectors.{Within, square}
 use Rattle.lc_num.specs.declared.rules.Rule.{Rule}
 use Rattle.lc_num.specs.declared.rules.Rule.TheVariants as rule
@@ -10,7 +10,6 @@ use Rattle.lc_num.specs.declared.vectors.Vec3.{Vec3}
 use Rattle.lc_num.proofs.SquareLemmas.{square_bound}
 use Rattle.lc_light.specs.Lights.{IsSun}
 use Rattle.lc_light.specs.declared.lights.Sun.{Sun}
-use Rattle.lc_terms.specs.Channels.{IsAtMost}
 use Rattle.lc_terms.specs.Factor.{factor, material}
 use Rattle.lc_terms.specs.Kind.{Laws}
 use Rattle.lc_terms.specs.SeenLaws.{factor-below}

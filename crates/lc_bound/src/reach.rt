@@ -1,7 +1,6 @@
 // Terms of a factor, and bounds of them over a box.
 ghost use Rattle.std.specs.Prelude.{◌≡◌, ◌*◌, ◌≤◌, ◌<◌, ◌^◌};
-ghost use Rattle.lc_num.specs.Channels.{IsPowerWithin};
-ghost use Rattle.lc_terms.specs.Channels.{by_power, times};
+ghost use Rattle.lc_num.specs.Channels.{IsPowerWithin, by_power, times};
 ghost use Rattle.lc_terms.specs.Factor.{reflected};
 ghost use Rattle.lc_terms.specs.Spot.{IsSpot};
 ghost use Rattle.lc_bound.specs.Reach.{emitted, falloff};

@@ -4,7 +4,7 @@ use Rattle.std.proofs.lemmas.Option.{same_Some}
 use Rattle.lc_num.specs.declared.channels.Rgb.{Rgb}
 use Rattle.lc_num.specs.declared.rules.Rule.{Rule}
 use Rattle.lc_geom.specs.declared.triangle.Tri.{Tri}
-use Rattle.lc_terms.specs.Channels.{by_power}
+use Rattle.lc_num.specs.Channels.{by_power}
 use Rattle.lc_terms.specs.Kind.{Meaning, factor_of}
 use Rattle.lc_terms.specs.declared.spot.Spot.{Spot}
 use Rattle.lc_tree.specs.Cover.{IsLeaderOf, power_sum}

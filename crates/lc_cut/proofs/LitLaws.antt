@@ -3,13 +3,12 @@ use Rattle.std.proofs.Common.{◌≡◌, ℕ, ◌+◌, ◌*◌, ◌≤◌, ◌^�
 use Rattle.std.proofs.Math.Nat.{mul-le-mul_right, mul-le-mul}
 use Rattle.std.proofs.lemmas.List.Sums.{sum_by-cons, sum_by-append}
 use Rattle.std.proofs.lemmas.List.Elements.{All-head, All-tail, All-weaker, All-contains}
-use Rattle.lc_num.specs.Channels.{IsRgbWithin, IsPowerWithin}
+use Rattle.lc_num.specs.Channels.{IsRgbWithin, IsPowerWithin, by_power, power_plus, IsAtMost}
 use Rattle.lc_num.specs.declared.channels.Rgb.{Rgb}
 use Rattle.lc_num.specs.declared.channels.Power.{Power}
 use Rattle.lc_num.specs.declared.rules.Rule.{Rule}
 use Rattle.lc_num.specs.declared.rules.Rule.TheVariants as rule
 use Rattle.lc_geom.specs.declared.triangle.Tri.{Tri}
-use Rattle.lc_terms.specs.Channels.{by_power, power_plus, IsAtMost}
 use Rattle.lc_terms.specs.Kind.{Meaning, Laws, factor_of}
 use Rattle.lc_terms.specs.Spot.{IsSpot}
 use Rattle.lc_terms.specs.declared.spot.Spot.{Spot}

@@ -6,7 +6,7 @@ use Rattle.lc_num.specs.declared.channels.Power.{Power}
 use Rattle.lc_num.specs.declared.rules.Rule.{Rule}
 use Rattle.lc_num.specs.declared.rules.Rule.TheVariants as rule
 use Rattle.lc_geom.specs.declared.triangle.Tri.{Tri}
-use Rattle.lc_terms.specs.Channels.{IsAtMost}
+use Rattle.lc_num.specs.Channels.{IsAtMost}
 use Rattle.lc_terms.specs.Kind.{Meaning, Laws}
 use Rattle.lc_terms.specs.Spot.{IsSpot}
 use Rattle.lc_terms.specs.declared.spot.Spot.{Spot}

@@ -8,7 +8,7 @@ use Rattle.lc_geom.specs.declared.triangle.Tri.{Tri}
 use Rattle.lc_terms.specs.Spot.{IsSpot}
 use Rattle.lc_terms.specs.declared.spot.Spot.{Spot}
 use Rattle.lc_rated.specs.Nodes.{IsSmall}
-use Rattle.lc_rated.specs.LitTrees.{LitTree, leaf, fork, full_of, leaf_count, IsLimited, EachTree, Trees, red, green, blue, most_of_leaf}
+use Rattle.lc_rated.specs.LitTrees.{LitTree, lit_leaf, lit_fork, full_of, leaf_count, IsLimited, EachTree, Trees, red, green, blue, most_of_leaf}
 use Rattle.lc_rated.specs.Cuts.{Placed, AreLimited, EachNode, refinements, cut_at, roots_of, totals_of, full_sum, full_light, leaf_sum, answer}
 use Rattle.lc_rated.proofs.CutSums.{full-cons, leaf_sum-cons, each_of_trees}
 use Rattle.lc_rated.proofs.CutLimits.{IsNodeLimited, totals_small}
@@ -40,8 +40,8 @@ answer_bound_within size permille trees h = bound_within trees (refinements size
 -- ---- the estimates of all leaves
 
 full_limited : (c : Rgb → ℕ) (most : ℕ) (t : LitTree) → IsLimited c most t → full_of c t ≤ most * leaf_count t
-full_limited c most (leaf e) h = omega arith
-full_limited c most (fork r a b) h =
+full_limited c most (lit_leaf e) h = omega arith
+full_limited c most (lit_fork r a b) h =
     let more : most * (leaf_count a + leaf_count b) ≡ most * leaf_count a + most * leaf_count b = omega arith in
     rw more (omega (arith, full_limited c most a h.2, full_limited c most b h.3))
 

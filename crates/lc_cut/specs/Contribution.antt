@@ -1,10 +1,9 @@
 -- The light of lights at a spot among triangles: of each light its factor times its intensity, added over all lights.
 use Rattle.std.specs.Prelude.{List, sum_by}
-use Rattle.lc_num.specs.Channels.{plus}
+use Rattle.lc_num.specs.Channels.{plus, by_power}
 use Rattle.lc_num.specs.declared.channels.Rgb.{Rgb}
 use Rattle.lc_geom.specs.declared.triangle.Tri.{Tri}
 use Rattle.lc_light.specs.declared.lights.Lights.{Lights}
-use Rattle.lc_terms.specs.Channels.{by_power}
 use Rattle.lc_terms.specs.Kind.{Meaning, factor_of}
 use Rattle.lc_terms.specs.declared.spot.Spot.{Spot}
 use Rattle.lc_bound.specs.Omni.{omni_meaning}

@@ -1,11 +1,10 @@
 -- What the nodes of a light tree give at a spot among triangles.
 use Rattle.std.specs.Prelude.{◌≡◌, ℕ, ◌-◌, ◌*◌, ◌^◌, ◌≤◌, max, List, Option, None, Some, IsSomeAnd}
-use Rattle.lc_num.specs.Channels.{black, IsRgbWithin}
+use Rattle.lc_num.specs.Channels.{black, IsRgbWithin, by_power, IsAtMost}
 use Rattle.lc_num.specs.declared.channels.Rgb.{Rgb}
 use Rattle.lc_num.specs.declared.rules.Rule.{Rule}
 use Rattle.lc_num.specs.declared.rules.Rule.TheVariants as rule
 use Rattle.lc_geom.specs.declared.triangle.Tri.{Tri}
-use Rattle.lc_terms.specs.Channels.{by_power, IsAtMost}
 use Rattle.lc_terms.specs.Kind.{Meaning, factor_of}
 use Rattle.lc_terms.specs.declared.spot.Spot.{Spot}
 use Rattle.lc_tree.specs.Node.{Node, leaf, fork, leader, members, clump_of, node_of}
@@ -13,7 +12,7 @@ use Rattle.lc_tree.specs.Cover.{power_sum}
 use Rattle.lc_rated.specs.declared.light.NodeLight.{NodeLight}
 use Rattle.lc_rated.specs.Cuts.{apart}
 use Rattle.lc_rated.specs.LitTrees.{LitTree}
-use Rattle.lc_rated.specs.LitTrees as lits
+use Rattle.lc_rated.specs.LitTrees.{LitTree, lit_leaf, lit_fork}
 use Rattle.lc_cut.specs.Contribution.{plain_of}
 
 -- in a channel, how far an estimate can be from what is there, where neither is above the top: under the first rule the
@@ -50,8 +49,8 @@ module _ {L C : Type 0} where
   est_of m ts spot t = by_power (factor_of m ts spot (leader t)) (power_sum m (members t))
 
   abbrev pub lit : Meaning L C → List Tri → Spot → Rule → Node L → LitTree
-  lit m ts spot r (leaf n l) = lits.leaf (est_of m ts spot (leaf n l))
-  lit m ts spot r (fork n l a b) = lits.fork (light_at m ts spot r (fork n l a b)) (lit m ts spot r a) (lit m ts spot r b)
+  lit m ts spot r (leaf n l) = lit_leaf (est_of m ts spot (leaf n l))
+  lit m ts spot r (fork n l a b) = lit_fork (light_at m ts spot r (fork n l a b)) (lit m ts spot r a) (lit m ts spot r b)
 
   abbrev pub lit_root : Meaning L C → List Tri → Spot → Rule → Option (Node L) → Option LitTree
   lit_root m ts spot r None = None

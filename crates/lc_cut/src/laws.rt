@@ -1,13 +1,12 @@
 // What the answer of a cut says of the sum over all lights, by the definitions alone. The functions do nothing: each
 // states laws by its contract.
 ghost use Rattle.std.specs.Prelude.{◌≡◌, ℕ, ◌-◌, ◌*◌, ◌^◌, ◌<◌, ◌≤◌, ◌⊎◌, List, Some};
-ghost use Rattle.lc_num.specs.Channels.{IsRgbWithin};
+ghost use Rattle.lc_num.specs.Channels.{IsRgbWithin, IsAtMost};
 ghost use Rattle.lc_num.specs.declared.rules.Rule.{Rule};
 ghost use Rattle.lc_num.specs.declared.rules.Rule.TheVariants as rule;
 ghost use Rattle.lc_geom.specs.declared.triangle.Tri.{Tri};
 ghost use Rattle.lc_light.specs.Lights.{AreLights};
 ghost use Rattle.lc_light.specs.declared.lights.Lights.{Lights};
-ghost use Rattle.lc_terms.specs.Channels.{IsAtMost};
 ghost use Rattle.lc_terms.specs.Spot.{IsSpot};
 ghost use Rattle.lc_terms.specs.declared.spot.Spot.{Spot};
 ghost use Rattle.lc_tree.specs.Node.{Node, node_at};

@@ -1,7 +1,6 @@
 // What a node of a light tree gives at a spot.
 ghost use Rattle.std.specs.Prelude.{◌≡◌, ◌+◌, ◌-◌, ◌*◌, ◌^◌, ◌<◌, ◌≤◌, max, Some, if◌then◌else◌, is_some, IsSomeAnd};
-ghost use Rattle.lc_num.specs.Channels.{IsPowerWithin, IsRgbWithin};
-ghost use Rattle.lc_terms.specs.Channels.{by_power};
+ghost use Rattle.lc_num.specs.Channels.{IsPowerWithin, IsRgbWithin, by_power};
 ghost use Rattle.lc_terms.specs.Spot.{IsSpot};
 ghost use Rattle.lc_tree.specs.Node.{count_of, kids_of, leader, members, node_of};
 ghost use Rattle.lc_tree.specs.Cover.{power_sum};
@@ -11,32 +10,9 @@ ghost use Rattle.lc_cut.specs.Lit.{bound_of, light_by, lit, lit_root, node_bound
 use lc_geom::Triangles;
 use lc_num::{Power, Rgb, Rule, Steps};
 use lc_rated::{Found, NodeLight, Split};
-use lc_terms::{Kind, Spot, eval};
+use lc_terms::{Kind, Spot, by_power, eval};
 use lc_tree::Tree;
 use std::sync::ledger::Ledger;
-
-const BLACK: Rgb = Rgb { r: 0, g: 0, b: 0 };
-
-/// One channel of a factor times an intensity.
-fn channel(factor: u128, power: u64) -> u128
-    requires factor { factor ≤ 20_000 * 65_536 * 10 ^ 13 }
-    requires power { power ≤ 10 ^ 8 * 65_536 }
-    ensures { result ≡ factor * power }
-{
-    factor * power as u128
-}
-
-fn by_power(factor: Rgb, power: Power) -> Rgb
-    requires factor { IsRgbWithin (20_000 * 65_536 * 10 ^ 13) factor }
-    requires power { IsPowerWithin (10 ^ 8 * 65_536) power }
-    ensures { result ≡ by_power factor power }
-{
-    Rgb {
-        r: channel(factor.r, power.r),
-        g: channel(factor.g, power.g),
-        b: channel(factor.b, power.b),
-    }
-}
 
 /// The representative of a node.
 fn leading<K: Kind>(tree: &Tree<K>, node: u32) -> K::Light
@@ -95,7 +71,7 @@ fn bound<K: Kind>(tree: &Tree<K>, node: u32, spot: &Spot, rule: Rule, est: Rgb) 
     if tree.kids(node).is_some() {
         node_bound(rule, est, K::top(spot, &tree.clump(node), rule))
     } else {
-        BLACK
+        Rgb::BLACK
     }
 }
 

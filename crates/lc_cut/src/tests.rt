@@ -18,8 +18,6 @@ const WHITE: Colour = Colour {
     b: 10_000,
 };
 
-const BLACK: Colour = Colour { r: 0, g: 0, b: 0 };
-
 const ORIGIN: Vec3 = Vec3 { x: 0, y: 0, z: 0 };
 
 fn gray(n: u128) -> Rgb {
@@ -71,7 +69,7 @@ fn count<L: Ledger>(
         },
         r: ORIGIN,
         kd: WHITE,
-        ks: BLACK,
+        ks: Colour::BLACK,
         ns: 0,
     };
     let mut steps = Steps::<L>::start(blank);

@@ -3,11 +3,11 @@ use Rattle.std.specs.Prelude.{Bool, ◌&&◌, ◌||◌, ℤ, pos, int_lt, int_le
 use Rattle.lc_num.specs.Vectors.{difference, dot, cross}
 use Rattle.lc_num.specs.declared.vectors.Vec3.{Vec3}
 use Rattle.lc_geom.specs.declared.triangle.Tri.{Tri}
-use Rattle.lc_geom.specs.Triangles.{across}
+use Rattle.lc_geom.specs.Triangles.{unscaled_normal}
 
 -- on which side of the triangle's plane p lies, and how far from it: 0 in the plane, positive where the normal points
 unfoldable pub side : Tri → Vec3 → ℤ
-side t p = dot (across t) (difference p t.a)
+side t p = dot (unscaled_normal t) (difference p t.a)
 
 -- six times the volume between the segment from p to q and that from u to v; its sign tells on which side of the
 -- other each passes

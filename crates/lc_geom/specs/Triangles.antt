@@ -12,12 +12,12 @@ pub record IsTri (t : Tri) : Type 0 where
   pub c : Within 50_000_000 t.c
 
 -- the cross product of the sides from the first corner
-abbrev pub across : Tri → Vec3
-across t = cross (difference t.b t.a) (difference t.c t.a)
+abbrev pub unscaled_normal : Tri → Vec3
+unscaled_normal t = cross (difference t.b t.a) (difference t.c t.a)
 
 abbrev pub normal_of : Tri → Vec3
-normal_of t = scaled (across t) 16384
+normal_of t = scaled (unscaled_normal t) 16384
 
 -- the corners lie on one line, so that there is no normal
 abbrev pub is_flat : Tri → Bool
-is_flat t = square (across t) == 0
+is_flat t = square (unscaled_normal t) == 0

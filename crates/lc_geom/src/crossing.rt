@@ -1,22 +1,31 @@
 // Exact tests of segments against triangles.
-ghost use Rattle.std.specs.Prelude.{◌≡◌, ◌^◌, ◌<◌, ◌-ℤ◌, unsigned_abs};
+ghost use Rattle.std.specs.Prelude.{◌≡◌, ◌^◌, ◌<◌, ◌-ℤ◌, int_lt, pos, unsigned_abs};
 ghost use Rattle.lc_num.specs.Vectors.{Within};
 ghost use Rattle.lc_geom.specs.Crossing.{are_opposite, crosses, have_one_sign, side, volume};
-ghost use Rattle.lc_geom.specs.Triangles.{IsTri, across};
+ghost use Rattle.lc_geom.specs.Triangles.{IsTri, unscaled_normal};
 
-use crate::triangle::{Tri, across};
+use crate::triangle::{Tri, unscaled_normal};
 use lc_num::{Vec3, cross, difference, dot};
 
 /// On which side of a triangle's plane a place is, by the cross product of the triangle's sides: 0 in the plane.
 fn side(t: &Tri, outward: Vec3, p: Vec3) -> i128
     requires t { IsTri t.now }
-    requires outward { outward ≡ across t.now }
+    requires outward { outward ≡ unscaled_normal t.now }
     requires small { Within (2 ^ 55) outward }
     requires p { Within 320_000_000 p }
     ensures value { result ≡ side t.now p }
     ensures most { unsigned_abs result < 2 ^ 87 }
 {
     dot(outward, difference(p, t.a))
+}
+
+/// Whether a place lies on the side of a triangle's plane from which its normal points away, and not in the plane.
+pub fn is_behind(p: Vec3, t: &Tri) -> bool
+    requires p { Within 50_100_000 p }
+    requires t { IsTri t.now }
+    ensures { result ≡ int_lt (side t.now p) (pos 0) }
+{
+    side(t, unscaled_normal(t), p) < 0
 }
 
 /// The sides of a triangle's plane on which the ends of a segment lie.
@@ -29,7 +38,7 @@ pub(crate) fn sides(p: Vec3, q: Vec3, t: &Tri) -> (i128, i128)
     ensures most_start { unsigned_abs result.0 < 2 ^ 87 }
     ensures most_end { unsigned_abs result.1 < 2 ^ 87 }
 {
-    let outward = across(t);
+    let outward = unscaled_normal(t);
     (side(t, outward, p), side(t, outward, q))
 }
 

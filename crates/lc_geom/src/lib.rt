@@ -8,7 +8,7 @@ mod triangle;
 mod triangles;
 mod weights;
 
-pub use crossing::blocks;
+pub use crossing::{blocks, is_behind};
 pub use hit::{Hit, depth, moved};
 pub use laws::{blocked_by, crossing_point, nearest_hit};
 pub use triangle::{Tri, is_flat, normal_of};

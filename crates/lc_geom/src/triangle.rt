@@ -1,7 +1,7 @@
 // Triangles and their normals.
 ghost use Rattle.std.specs.Prelude.{◌≡◌, ◌^◌};
 ghost use Rattle.lc_num.specs.Vectors.{Within};
-ghost use Rattle.lc_geom.specs.Triangles.{IsTri, across, is_flat, normal_of};
+ghost use Rattle.lc_geom.specs.Triangles.{IsTri, unscaled_normal, is_flat, normal_of};
 
 use lc_num::{Vec3, cross, difference, scaled, square};
 
@@ -14,9 +14,9 @@ pub struct Tri {
 }
 
 /// The cross product of the sides from the first corner to the second and to the third.
-pub(crate) fn across(t: &Tri) -> Vec3
+pub(crate) fn unscaled_normal(t: &Tri) -> Vec3
     requires { IsTri t.now }
-    ensures value { result ≡ across t.now }
+    ensures value { result ≡ unscaled_normal t.now }
     ensures within { Within (2 ^ 55) result }
 {
     cross(difference(t.b, t.a), difference(t.c, t.a))
@@ -30,7 +30,7 @@ pub fn normal_of(t: &Tri) -> Vec3
     ensures value { result ≡ normal_of t.now }
     ensures within { Within 16384 result }
 {
-    scaled(across(t), 16_384)
+    scaled(unscaled_normal(t), 16_384)
 }
 
 /// Whether the corners lie on one line, so that the triangle has no normal.
@@ -38,5 +38,5 @@ pub fn is_flat(t: &Tri) -> bool
     requires { IsTri t.now }
     ensures { result ≡ is_flat t.now }
 {
-    square(across(t)) == 0
+    square(unscaled_normal(t)) == 0
 }

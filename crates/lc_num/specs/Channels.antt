@@ -1,5 +1,5 @@
 -- The three channels red, green and blue.
-use Rattle.std.specs.Prelude.{ℕ, ◌+◌, ◌≤◌}
+use Rattle.std.specs.Prelude.{ℕ, ◌+◌, ◌*◌, ◌≤◌}
 use Rattle.lc_num.specs.declared.channels.Rgb.{Rgb}
 use Rattle.lc_num.specs.declared.channels.Power.{Power}
 use Rattle.lc_num.specs.declared.channels.Colour.{Colour}
@@ -27,3 +27,21 @@ pub record IsRgbWithin (most : ℕ) (c : Rgb) : Type 0 where
 -- the sum in each channel
 abbrev pub plus : Rgb → Rgb → Rgb
 plus a b = record { r = a.r + b.r; g = a.g + b.g; b = a.b + b.b }
+
+-- a number times each channel
+abbrev pub times : ℕ → Rgb → Rgb
+times n c = record { r = n * c.r; g = n * c.g; b = n * c.b }
+
+-- each channel times that of an intensity
+abbrev pub by_power : Rgb → Power → Rgb
+by_power c p = record { r = c.r * p.r; g = c.g * p.g; b = c.b * p.b }
+
+-- the sum of two intensities
+abbrev pub power_plus : Power → Power → Power
+power_plus a b = record { r = a.r + b.r; g = a.g + b.g; b = a.b + b.b }
+
+-- each channel is at most that of `most`
+pub record IsAtMost (most c : Rgb) : Type 0 where
+  pub r : c.r ≤ most.r
+  pub g : c.g ≤ most.g
+  pub b : c.b ≤ most.b

@@ -8,6 +8,11 @@ pub struct Rgb {
     pub b: u128,
 }
 
+impl Rgb {
+    /// No light in any channel.
+    pub const BLACK: Rgb = Rgb { r: 0, g: 0, b: 0 };
+}
+
 /// The intensity of a light per channel, in units of 1/10000.
 #[derive(Clone, Copy, Debug, PartialEq, Eq)]
 pub struct Power {
@@ -22,4 +27,9 @@ pub struct Colour {
     pub r: u32,
     pub g: u32,
     pub b: u32,
+}
+
+impl Colour {
+    /// No share in any channel.
+    pub const BLACK: Colour = Colour { r: 0, g: 0, b: 0 };
 }

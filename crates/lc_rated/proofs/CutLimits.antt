@@ -3,14 +3,14 @@ use Rattle.std.proofs.Common.{◌≡◌, ℕ, ◌+◌, ◌*◌, ◌≤◌, ◌<�
 use Rattle.std.proofs.Math.Nat.{mul-le-mul_left}
 use Rattle.lc_num.specs.declared.channels.Rgb.{Rgb}
 use Rattle.lc_rated.specs.declared.kind.LightKind.{LightKind}
-use Rattle.lc_rated.specs.LitTrees.{LitTree, leaf, fork, light_of, leaf_count, IsLimited, red, green, blue, Trees, EachTree, most_of_leaf}
+use Rattle.lc_rated.specs.LitTrees.{LitTree, lit_leaf, lit_fork, light_of, leaf_count, IsLimited, red, green, blue, Trees, EachTree, most_of_leaf}
 use Rattle.lc_rated.specs.Cuts.{Placed, greatest_key, parts_of, roots_of, cut_at, est_sum, bound_sum, totals_of, leaf_sum, EachNode, AreLimited}
 use Rattle.lc_rated.specs.Nodes.{IsSmall}
 use Rattle.lc_rated.proofs.CutSums.{est-cons, bound-cons, leaf_sum-cons, leaf_sum-cut_at, each_cut_at, each_of_trees}
 
 est_limited : (c : Rgb → ℕ) (most : ℕ) (t : LitTree) → IsLimited c most t → c (light_of t).est ≤ most * leaf_count t
-est_limited c most (leaf e) h = omega arith
-est_limited c most (fork r a b) h = h.0
+est_limited c most (lit_leaf e) h = omega arith
+est_limited c most (lit_fork r a b) h = h.0
 
 abbrev pub IsNodeLimited : (Rgb → ℕ) → ℕ → Placed → Type 0
 IsNodeLimited c most p = IsLimited c most p.tree
@@ -20,8 +20,8 @@ abbrev pub IsChannel : (Rgb → ℕ) → Type 0
 IsChannel c = (let black : Rgb = record { r = 0; g = 0; b = 0 } in c black) ≡ 0
 
 bound_limited : (c : Rgb → ℕ) (most : ℕ) → IsChannel c → (t : LitTree) → IsLimited c most t → c (light_of t).bound ≤ most * leaf_count t
-bound_limited c most none (leaf e) h = omega (arith, none)
-bound_limited c most none (fork r a b) h = h.1
+bound_limited c most none (lit_leaf e) h = omega (arith, none)
+bound_limited c most none (lit_fork r a b) h = h.1
 
 est_sum_limited : (c : Rgb → ℕ) (most : ℕ) (cut : List Placed) → EachNode (IsNodeLimited c most) cut → est_sum c cut ≤ most * leaf_sum cut
 est_sum_limited c most [] h = omega arith
@@ -36,8 +36,8 @@ bound_sum_limited c most none (p ∷ ps) h =
     rw (bound-cons c p ps, leaf_sum-cons p ps, more) (omega (arith, bound_limited c most none p.tree h.0, bound_sum_limited c most none ps h.1))
 
 limited_parts : (c : Rgb → ℕ) (most : ℕ) (kind : LightKind) (node : ℕ) (t : LitTree) → IsLimited c most t → EachNode (IsNodeLimited c most) (parts_of kind node t)
-limited_parts c most kind node (leaf e) h = (h, tt)
-limited_parts c most kind node (fork r a b) h = (h.2, (h.3, tt))
+limited_parts c most kind node (lit_leaf e) h = (h, tt)
+limited_parts c most kind node (lit_fork r a b) h = (h.2, (h.3, tt))
 
 limited_at : (c : Rgb → ℕ) (most : ℕ) (trees : Trees) (k : ℕ) → EachTree (IsLimited c most) trees → EachNode (IsNodeLimited c most) (cut_at (roots_of trees) k)
 limited_at c most trees k h =

@@ -2,7 +2,7 @@
 use Rattle.std.proofs.Common.{◌≡◌, ℕ, zero, suc, ◌+◌, ◌*◌, ◌<◌, ◌≤◌, ◌⊎◌, inl, inr, cond, true, false, ◌==◌, List, [], ◌∷◌, ◌++◌, Option, None, Some, refl, subst, arith}
 use Rattle.lc_rated.specs.declared.kind.LightKind.{LightKind}
 use Rattle.lc_rated.specs.declared.kind.LightKind.TheVariants as kind
-use Rattle.lc_rated.specs.LitTrees.{LitTree, leaf, fork, leaf_count, node_count, kind_number, Trees}
+use Rattle.lc_rated.specs.LitTrees.{LitTree, lit_leaf, lit_fork, leaf_count, node_count, kind_number, Trees}
 use Rattle.lc_rated.specs.Cuts.{Placed, key_of, greatest_key, parts_of, replaced, root_of, roots_of, cut_at, EachNode, IsBefore, IsInOrder}
 use Rattle.lc_rated.proofs.NodeFinding.{counts}
 
@@ -13,8 +13,8 @@ IsOrdered kind from (p ∷ ps) =
     ((kind < kind_number p.kind) ⊎ ((kind ≡ kind_number p.kind) × (from ≤ p.node))) × IsOrdered (kind_number p.kind) (p.node + node_count p.tree) ps
 
 parts_ordered : (kind from : ℕ) (k : LightKind) (n : ℕ) (t : LitTree) (ps : List Placed) → (kind < kind_number k) ⊎ ((kind ≡ kind_number k) × (from ≤ n)) → IsOrdered (kind_number k) (n + node_count t) ps → IsOrdered kind from (parts_of k n t ++ ps)
-parts_ordered kind from k n (leaf r) ps h hs = (h, hs)
-parts_ordered kind from k n (fork r a b) ps h hs =
+parts_ordered kind from k n (lit_leaf r) ps h hs = (h, hs)
+parts_ordered kind from k n (lit_fork r a b) ps h hs =
     let end : n + (1 + (node_count a + node_count b)) ≡ (n + 2 * leaf_count a) + node_count b = omega (arith, counts a) in (
       elim h [ inl lt ↦ inl lt | inr q ↦ inr (q.0, omega (arith, q.1)) ],
       (inr (refl, omega (arith, counts a)), subst (λ e. IsOrdered (kind_number k) e ps) end hs),
@@ -43,8 +43,8 @@ cut_ordered trees zero = roots_ordered trees.omni trees.oriented trees.sun
 cut_ordered trees (suc k) = replaced_ordered (greatest_key (cut_at (roots_of trees) k)) 0 0 (cut_at (roots_of trees) k) (cut_ordered trees k)
 
 node_some : (t : LitTree) → 0 < node_count t
-node_some (leaf r) = omega arith
-node_some (fork r a b) = omega arith
+node_some (lit_leaf r) = omega arith
+node_some (lit_fork r a b) = omega arith
 
 -- this node stands before those that are in order from a later place on
 before_rest : (p : Placed) (kind from : ℕ) (ps : List Placed) → (kind_number p.kind < kind) ⊎ ((kind_number p.kind ≡ kind) × (p.node < from)) → IsOrdered kind from ps → EachNode (IsBefore p) ps

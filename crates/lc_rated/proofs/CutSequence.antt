@@ -4,18 +4,18 @@ use Rattle.std.proofs.lemmas.Bool.Decides.{nat_tests}
 use Rattle.lc_num.specs.declared.channels.Rgb.{Rgb}
 use Rattle.lc_rated.specs.declared.kind.LightKind.{LightKind}
 use Rattle.lc_rated.specs.declared.kind.LightKind.TheVariants as kind
-use Rattle.lc_rated.specs.LitTrees.{LitTree, leaf, fork, light_of, full_of, IsBounded, AreBounded, red, green, blue, Trees, EachTree}
-use Rattle.lc_rated.specs.Cuts.{Placed, key_of, greatest_key, parts_of, replaced, refined, root_of, roots_of, cut_at, est_sum, bound_sum, full_sum, full_light, EachNode, IsNear, IsFraction, is_within, stops, least, refinements, chosen, answer_of, answer, apart}
+use Rattle.lc_rated.specs.LitTrees.{LitTree, lit_leaf, lit_fork, light_of, full_of, IsBounded, AreBounded, red, green, blue, Trees, EachTree}
+use Rattle.lc_rated.specs.Cuts.{Placed, key_of, greatest_key, parts_of, replaced, refined, root_of, roots_of, cut_at, est_sum, bound_sum, full_sum, full_light, EachNode, IsNear, IsFraction, is_within, stops, least_passing, refinements, chosen, answer_of, answer, apart}
 use Rattle.lc_rated.proofs.CutSums.{est-cons, bound-cons, full-cons, full-cut_at, each_cut_at, each_of_trees}
 
 -- distance of one tree
 tree_high : (c : Rgb → ℕ) (t : LitTree) → IsBounded c t → full_of c t ≤ c (light_of t).est + c (light_of t).bound
-tree_high c (leaf e) h = omega arith
-tree_high c (fork r a b) h = h.1
+tree_high c (lit_leaf e) h = omega arith
+tree_high c (lit_fork r a b) h = h.1
 
 tree_low : (c : Rgb → ℕ) (t : LitTree) → IsBounded c t → c (light_of t).est ≤ full_of c t + c (light_of t).bound
-tree_low c (leaf e) h = omega arith
-tree_low c (fork r a b) h = h.0
+tree_low c (lit_leaf e) h = omega arith
+tree_low c (lit_fork r a b) h = h.0
 
 abbrev pub IsNodeBounded : (Rgb → ℕ) → Placed → Type 0
 IsNodeBounded c p = IsBounded c p.tree
@@ -30,8 +30,8 @@ sum_low c [] h = omega arith
 sum_low c (p ∷ ps) h = omega (arith, full-cons c p ps, est-cons c p ps, bound-cons c p ps, tree_low c p.tree h.0, sum_low c ps h.1)
 
 bounded_parts : (c : Rgb → ℕ) (kind : LightKind) (node : ℕ) (t : LitTree) → IsBounded c t → EachNode (IsNodeBounded c) (parts_of kind node t)
-bounded_parts c kind node (leaf e) h = (h, tt)
-bounded_parts c kind node (fork r a b) h = (h.2, (h.3, tt))
+bounded_parts c kind node (lit_leaf e) h = (h, tt)
+bounded_parts c kind node (lit_fork r a b) h = (h.2, (h.3, tt))
 
 -- estimate and full sum of each cut differ by at most its bound, in a channel
 cut_high : (c : Rgb → ℕ) (roots : List Placed) (k : ℕ) → EachNode (IsNodeBounded c) roots → full_sum c roots ≤ est_sum c (cut_at roots k) + bound_sum c (cut_at roots k)
@@ -72,8 +72,8 @@ greatest_has (p ∷ ps) h =
 
 -- the children are two, where the key is positive
 parts_two : (kind : LightKind) (node : ℕ) (t : LitTree) (ps : List Placed) → 0 < (light_of t).bound.r + (light_of t).bound.g + (light_of t).bound.b → length (parts_of kind node t ++ ps) ≡ length ps + 2
-parts_two kind node (leaf e) ps h = absurd (omega arith)
-parts_two kind node (fork r a b) ps h = omega arith
+parts_two kind node (lit_leaf e) ps h = absurd (omega arith)
+parts_two kind node (lit_fork r a b) ps h = omega arith
 
 longer : (key : ℕ) (cut : List Placed) → 0 < key → HasKey key cut → length (replaced key cut) ≡ length cut + 1
 longer key [] pos has = absurd has
@@ -155,35 +155,35 @@ size_within size permille roots (suc k) few go =
     omega (arith, step, before, other)
 
 -- the least number at which a test holds
-pub least_is : (n : ℕ) (p : ℕ → Bool) (k : ℕ) → k ≤ n → p k ≡ true → ((j : ℕ) → j < k → p j ≡ false) → least n p ≡ k
+pub least_is : (n : ℕ) (p : ℕ → Bool) (k : ℕ) → k ≤ n → p k ≡ true → ((j : ℕ) → j < k → p j ≡ false) → least_passing n p ≡ k
 least_is zero p k le holds go = omega arith
 least_is (suc n) p zero le holds go = rw holds refl
 least_is (suc n) p (suc k) le holds go =
     let no : p 0 ≡ false = go 0 (omega arith) in
     rw no (ap suc (least_is n (λ j. p (suc j)) k (omega arith) holds (λ j lt. go (suc j) (omega arith))))
 
-least_within : (n : ℕ) (p : ℕ → Bool) → least n p ≤ n
+least_within : (n : ℕ) (p : ℕ → Bool) → least_passing n p ≤ n
 least_within zero p = omega arith
 least_within (suc n) p =
-    elim (p 0) as (λ v. cond v 0 (suc (least n (λ j. p (suc j)))) ≤ suc n) [ true ↦ omega arith | false ↦ omega (arith, least_within n (λ j. p (suc j))) ]
+    elim (p 0) as (λ v. cond v 0 (suc (least_passing n (λ j. p (suc j)))) ≤ suc n) [ true ↦ omega arith | false ↦ omega (arith, least_within n (λ j. p (suc j))) ]
 
-least_before : (n : ℕ) (p : ℕ → Bool) (j : ℕ) → j < least n p → p j ≡ false
+least_before : (n : ℕ) (p : ℕ → Bool) (j : ℕ) → j < least_passing n p → p j ≡ false
 least_before zero p j lt = absurd (omega arith)
 least_before (suc n) p zero lt =
-    elim (p 0) as (λ v. p 0 ≡ v → 0 < cond v 0 (suc (least n (λ i. p (suc i)))) → p 0 ≡ false) [
+    elim (p 0) as (λ v. p 0 ≡ v → 0 < cond v 0 (suc (least_passing n (λ i. p (suc i)))) → p 0 ≡ false) [
       | true ↦ (λ e h. absurd (omega arith))
       | false ↦ (λ e h. e)
     ] refl lt
 least_before (suc n) p (suc j) lt =
-    elim (p 0) as (λ v. suc j < cond v 0 (suc (least n (λ i. p (suc i)))) → p (suc j) ≡ false) [
+    elim (p 0) as (λ v. suc j < cond v 0 (suc (least_passing n (λ i. p (suc i)))) → p (suc j) ≡ false) [
       | true ↦ (λ h. absurd (omega arith))
       | false ↦ (λ h. least_before n (λ i. p (suc i)) j (omega arith))
     ] lt
 
-least_holds : (n : ℕ) (p : ℕ → Bool) → least n p < n → p (least n p) ≡ true
+least_holds : (n : ℕ) (p : ℕ → Bool) → least_passing n p < n → p (least_passing n p) ≡ true
 least_holds zero p lt = absurd (omega arith)
 least_holds (suc n) p lt =
-    elim (p 0) as (λ v. p 0 ≡ v → cond v 0 (suc (least n (λ i. p (suc i)))) < suc n → p (cond v 0 (suc (least n (λ i. p (suc i))))) ≡ true) [
+    elim (p 0) as (λ v. p 0 ≡ v → cond v 0 (suc (least_passing n (λ i. p (suc i)))) < suc n → p (cond v 0 (suc (least_passing n (λ i. p (suc i))))) ≡ true) [
       | true ↦ (λ e h. e)
       | false ↦ (λ e h. least_holds n (λ i. p (suc i)) (omega arith))
     ] refl lt
@@ -207,11 +207,11 @@ chosen_within size permille roots few = size_within size permille roots (refinem
 pub chosen_stops : (size permille : ℕ) (roots : List Placed) → length roots ≤ size → stops size permille (chosen size permille roots) ≡ true
 chosen_stops size permille roots few =
     let p : ℕ → Bool = λ k. stops size permille (cut_at roots k) in
-    let len : length (cut_at roots (least size p)) ≡ length roots + least size p = length-cut_at size permille roots (least size p) (going size permille roots) in
-    let most : length (cut_at roots (least size p)) ≤ size = chosen_within size permille roots few in
-    elim (below_or_at (least size p) size (least_within size p)) [
+    let len : length (cut_at roots (least_passing size p)) ≡ length roots + least_passing size p = length-cut_at size permille roots (least_passing size p) (going size permille roots) in
+    let most : length (cut_at roots (least_passing size p)) ≤ size = chosen_within size permille roots few in
+    elim (below_or_at (least_passing size p) size (least_within size p)) [
       | inl lt ↦ least_holds size p lt
-      | inr at ↦ stops_at_size size permille (cut_at roots (least size p)) (omega (arith, len, most, at))
+      | inr at ↦ stops_at_size size permille (cut_at roots (least_passing size p)) (omega (arith, len, most, at))
     ]
 
 within_of_stops : (size permille : ℕ) (cut : List Placed) → stops size permille cut ≡ true → (length cut ≡ size) ⊎ IsFraction permille (answer_of cut)

@@ -7,7 +7,7 @@ use Rattle.lc_num.specs.declared.channels.Rgb.{Rgb}
 use Rattle.lc_rated.specs.declared.light.NodeLight.{NodeLight}
 use Rattle.lc_rated.specs.declared.kind.LightKind.{LightKind}
 use Rattle.lc_rated.specs.declared.kind.LightKind.TheVariants as kind
-use Rattle.lc_rated.specs.LitTrees.{LitTree, leaf, fork, light_of, leaf_count, full_of, tree_of, Trees, EachTree}
+use Rattle.lc_rated.specs.LitTrees.{LitTree, lit_leaf, lit_fork, light_of, leaf_count, full_of, tree_for, Trees, EachTree}
 use Rattle.lc_rated.specs.Cuts.{Placed, key_of, greatest_key, parts_of, replaced, root_of, roots_of, cut_at, est_sum, bound_sum, full_sum, leaf_sum, EachNode}
 
 -- the sum over the trees of a cut
@@ -31,11 +31,11 @@ leaf_sum-cons = tree_sum-cons leaf_count
 
 -- what a node counts is what its children count together
 abbrev pub IsAdditive : (LitTree → ℕ) → Type 0
-IsAdditive f = (r : NodeLight) (a b : LitTree) → f (fork r a b) ≡ f a + f b
+IsAdditive f = (r : NodeLight) (a b : LitTree) → f (lit_fork r a b) ≡ f a + f b
 
 additive-parts : (f : LitTree → ℕ) → IsAdditive f → (kind : LightKind) (node : ℕ) (t : LitTree) (ps : List Placed) → tree_sum f (parts_of kind node t ++ ps) ≡ f t + tree_sum f ps
-additive-parts f add kind node (leaf e) ps = tree_sum-cons f (record { kind = kind; node = node; tree = leaf e }) ps
-additive-parts f add kind node (fork r a b) ps =
+additive-parts f add kind node (lit_leaf e) ps = tree_sum-cons f (record { kind = kind; node = node; tree = lit_leaf e }) ps
+additive-parts f add kind node (lit_fork r a b) ps =
     let left : Placed = record { kind = kind; node = node + 1; tree = a } in
     let right : Placed = record { kind = kind; node = node + 2 * leaf_count a; tree = b } in
     omega (arith, add r a b, tree_sum-cons f left (right ∷ ps), tree_sum-cons f right ps)
@@ -113,10 +113,10 @@ tree_sum-roots_of f trees =
     omega (arith, sum_by-append g (root_of kind.Omni trees.omni) (root_of kind.Oriented trees.oriented ++ root_of kind.Sun trees.sun), sum_by-append g (root_of kind.Oriented trees.oriented) (root_of kind.Sun trees.sun), tree_sum-root_of f kind.Omni trees.omni, tree_sum-root_of f kind.Oriented trees.oriented, tree_sum-root_of f kind.Sun trees.sun)
 
 -- no tree counts more than all roots do
-pub root_sum : (f : LitTree → ℕ) (trees : Trees) (k : LightKind) (t : LitTree) → tree_of trees k ≡ Some t → f t ≤ tree_sum f (roots_of trees)
+pub root_sum : (f : LitTree → ℕ) (trees : Trees) (k : LightKind) (t : LitTree) → tree_for trees k ≡ Some t → f t ≤ tree_sum f (roots_of trees)
 root_sum f trees k t h =
     let all = tree_sum-roots_of f trees in
-    elim k as (λ v. tree_of trees v ≡ Some t → f t ≤ tree_sum f (roots_of trees)) [
+    elim k as (λ v. tree_for trees v ≡ Some t → f t ≤ tree_sum f (roots_of trees)) [
       | kind.Omni ↦ (λ e. omega (arith, all, ap (count_of f) e))
       | kind.Oriented ↦ (λ e. omega (arith, all, ap (count_of f) e))
       | kind.Sun ↦ (λ e. omega (arith, all, ap (count_of f) e))

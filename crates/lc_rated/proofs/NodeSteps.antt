@@ -11,7 +11,7 @@ use Rattle.lc_heap.specs.Order.{comes_before, IsFirstOf}
 use Rattle.lc_heap.specs.declared.entry.Entry.{Entry}
 use Rattle.lc_rated.specs.declared.light.NodeLight.{NodeLight}
 use Rattle.lc_rated.specs.declared.kind.LightKind.{LightKind}
-use Rattle.lc_rated.specs.LitTrees.{LitTree, leaf, fork, light_of, leaf_count, kind_number, red, green, blue, Trees, tree_of, find}
+use Rattle.lc_rated.specs.LitTrees.{LitTree, lit_leaf, lit_fork, light_of, leaf_count, kind_number, red, green, blue, Trees, tree_for, find}
 use Rattle.lc_rated.specs.Cuts.{Placed, key_of, greatest_key, parts_of, replaced, refined, roots_of, cut_at, est_sum, bound_sum, totals_of, AreLimited, IsBefore, IsInOrder}
 use Rattle.lc_rated.specs.Nodes.{entry_of, light_key, IsSmall, IsMoved, CanMove}
 use Rattle.lc_rated.proofs.CutSums.{EachNode-at}
@@ -142,24 +142,24 @@ pub record Step (trees : Trees) (cut : List Placed) (kind : LightKind) (e : Entr
   pub light : NodeLight
   pub left : LitTree
   pub right : LitTree
-  pub found : find trees kind e.node ≡ Some (fork light left right)
+  pub found : find trees kind e.node ≡ Some (lit_fork light left right)
   pub left_found : find trees kind (e.node + 1) ≡ Some left
   pub right_found : find trees kind (e.node + 2 * leaf_count left) ≡ Some right
-  pub here : slice_get cut at ≡ Some (placed kind e.node (fork light left right))
-  pub entry : e ≡ entry_of (placed kind e.node (fork light left right))
+  pub here : slice_get cut at ≡ Some (placed kind e.node (lit_fork light left right))
+  pub entry : e ≡ entry_of (placed kind e.node (lit_fork light left right))
   pub is : refined cut ≡ take at cut ++ (placed kind (e.node + 1) left ∷ placed kind (e.node + 2 * leaf_count left) right ∷ drop (at + 1) cut)
 
 step_in : (trees : Trees) (cut : List Placed) (kind : LightKind) (e : Entry) (at : ℕ) (t : LitTree) → slice_get cut at ≡ Some (placed kind e.node t) → e ≡ entry_of (placed kind e.node t) → refined cut ≡ take at cut ++ (parts_of kind e.node t ++ drop (at + 1) cut) → find trees kind e.node ≡ Some t → 0 < (light_of t).bound.r + (light_of t).bound.g + (light_of t).bound.b → Step trees cut kind e
-step_in trees cut kind e at (leaf q) here entry is found some = absurd (omega arith)
-step_in trees cut kind e at (fork r a b) here entry is found some =
+step_in trees cut kind e at (lit_leaf q) here entry is found some = absurd (omega arith)
+step_in trees cut kind e at (lit_fork r a b) here entry is found some =
     record {
       at = at;
       light = r;
       left = a;
       right = b;
       found = found;
-      left_found = left_of (tree_of trees kind) e.node r a b found;
-      right_found = right_of (tree_of trees kind) e.node r a b found;
+      left_found = left_of (tree_for trees kind) e.node r a b found;
+      right_found = right_of (tree_for trees kind) e.node r a b found;
       here = here;
       entry = entry;
       is = is;
@@ -204,13 +204,13 @@ map_around f xs i x y = rw (map-append, take-map, drop-map) refl
 est_step : (c : Rgb → ℕ) (trees : Trees) (cut : List Placed) (kind : LightKind) (e : Entry) (s : Step trees cut kind e) → (est_sum c (refined cut) + c s.light.est ≡ est_sum c cut + (c (light_of s.left).est + c (light_of s.right).est)) × (c s.light.est ≤ est_sum c cut)
 est_step c trees cut kind e s =
     let f : Placed → ℕ = λ p. c (light_of p.tree).est in
-    let r = sum_around f cut s.at (placed kind e.node (fork s.light s.left s.right)) (placed kind (e.node + 1) s.left) (placed kind (e.node + 2 * leaf_count s.left) s.right) s.here in
+    let r = sum_around f cut s.at (placed kind e.node (lit_fork s.light s.left s.right)) (placed kind (e.node + 1) s.left) (placed kind (e.node + 2 * leaf_count s.left) s.right) s.here in
     (rw s.is r.0, r.1)
 
 bound_step : (c : Rgb → ℕ) (trees : Trees) (cut : List Placed) (kind : LightKind) (e : Entry) (s : Step trees cut kind e) → (bound_sum c (refined cut) + c s.light.bound ≡ bound_sum c cut + (c (light_of s.left).bound + c (light_of s.right).bound)) × (c s.light.bound ≤ bound_sum c cut)
 bound_step c trees cut kind e s =
     let f : Placed → ℕ = λ p. c (light_of p.tree).bound in
-    let r = sum_around f cut s.at (placed kind e.node (fork s.light s.left s.right)) (placed kind (e.node + 1) s.left) (placed kind (e.node + 2 * leaf_count s.left) s.right) s.here in
+    let r = sum_around f cut s.at (placed kind e.node (lit_fork s.light s.left s.right)) (placed kind (e.node + 1) s.left) (placed kind (e.node + 2 * leaf_count s.left) s.right) s.here in
     (rw s.is r.0, r.1)
 
 next_small : (trees : Trees) (k : ℕ) → AreLimited trees → IsSmall (totals_of (refined (cut_at (roots_of trees) k)))

@@ -10,7 +10,7 @@ use Rattle.lc_rated.specs.declared.light.NodeLight.{NodeLight}
 use Rattle.lc_rated.specs.declared.lighting.Split.{Split}
 use Rattle.lc_rated.specs.declared.slot.Slot.{Slot}
 use Rattle.lc_rated.specs.declared.kind.LightKind.{LightKind}
-use Rattle.lc_rated.specs.LitTrees.{LitTree, fork, light_of, leaf_count, Trees, find, kind_number}
+use Rattle.lc_rated.specs.LitTrees.{LitTree, lit_fork, light_of, leaf_count, Trees, find, kind_number}
 use Rattle.lc_rated.specs.Cuts.{Placed, EachNode, IsInOrder, greatest_key, refined, roots_of, cut_at, totals_of, AreLimited}
 use Rattle.lc_rated.specs.Finding.{IsFound, IsSplit}
 use Rattle.lc_rated.specs.Nodes.{NodesParts, entry_of, light_key, made_entry, made_slot, place_of, slot_of, cut_now, Holds, IsKept, IsCutOf, IsReplaced, IsMoved, CanMove}
@@ -64,10 +64,10 @@ module _ {K : Type 0} {keeps : LightKind → ℕ → K → Type 0} {trees : Tree
     right = placed kind (e.node + 2 * leaf_count step.left) step.right
 
     node_found : IsSome (find trees kind e.node)
-    node_found = is_found (find trees kind e.node) (fork step.light step.left step.right) step.found
+    node_found = is_found (find trees kind e.node) (lit_fork step.light step.left step.right) step.found
 
-    mine : IsKept keeps r.cut.holds.owner nodes.places nodes.slots (placed kind e.node (fork step.light step.left step.right))
-    mine = EachNode-at (IsKept keeps r.cut.holds.owner nodes.places nodes.slots) now step.at (placed kind e.node (fork step.light step.left step.right)) r.cut.holds.kept step.here
+    mine : IsKept keeps r.cut.holds.owner nodes.places nodes.slots (placed kind e.node (lit_fork step.light step.left step.right))
+    mine = EachNode-at (IsKept keeps r.cut.holds.owner nodes.places nodes.slots) now step.at (placed kind e.node (lit_fork step.light step.left step.right)) r.cut.holds.kept step.here
 
     pub has_node : IsSome (find trees kind e.node)
     has_node = node_found
@@ -134,7 +134,7 @@ module _ {K : Type 0} {keeps : LightKind → ℕ → K → Type 0} {trees : Tree
           rest = drop (step.at + 1) (map entry_of now)
 
           abbrev gone : Placed
-          gone = placed kind e.node (fork step.light step.left step.right)
+          gone = placed kind e.node (lit_fork step.light step.left step.right)
 
           abbrev left_place : ℕ
           left_place = place_of kind split.left.node

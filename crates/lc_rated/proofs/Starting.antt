@@ -9,7 +9,7 @@ use Rattle.lc_rated.specs.declared.light.NodeLight.{NodeLight}
 use Rattle.lc_rated.specs.declared.lighting.Found.{Found}
 use Rattle.lc_rated.specs.declared.kind.LightKind.{LightKind}
 use Rattle.lc_rated.specs.declared.kind.LightKind.TheVariants as kind
-use Rattle.lc_rated.specs.LitTrees.{LitTree, light_of, kind_number, Trees, tree_of}
+use Rattle.lc_rated.specs.LitTrees.{LitTree, light_of, kind_number, Trees, tree_for}
 use Rattle.lc_rated.specs.Cuts.{Placed, EachNode, root_of, roots_of, cut_at, totals_of, AreLimited}
 use Rattle.lc_rated.specs.Finding.{IsFound, IsRoot}
 use Rattle.lc_rated.specs.Nodes.{NodesParts, entry_of, light_key, lights_plus, made_entry, made_slot, place_of, roots_before, Holds, IsAdded, IsCutOf, IsKept, IsSmall}
@@ -20,7 +20,7 @@ use Rattle.lc_rated.proofs.NodeSteps.{placed, length-map}
 use Rattle.lc_rated.proofs.Holding.{handed_out, kept_still, kept_new, kind_below, place_within}
 
 abbrev roots_to : LightKind → Trees → List Placed
-roots_to k trees = roots_before k trees ++ root_of k (tree_of trees k)
+roots_to k trees = roots_before k trees ++ root_of k (tree_for trees k)
 
 -- the roots after these
 roots_after : (k : LightKind) (trees : Trees) → (rest : List Placed) × (roots_to k trees ++ rest ≡ roots_of trees)
@@ -97,18 +97,18 @@ pub holds_nothing : {K : Type 0} (keeps : LightKind → ℕ → K → Type 0) (n
 holds_nothing keeps nodes e s = record { entries = rw e (IsPermutation-refl []); sums = s; owner = λ i. 0; kept = tt }
 
 module _ {K : Type 0} (keeps : LightKind → ℕ → K → Type 0) (trees : Trees) (k : LightKind) (nodes : NodesParts K) (h : Holds keeps (roots_before k trees) nodes) where
-  pub start_none : IsRoot (keeps k) (tree_of trees k) None → Holds keeps (roots_to k trees) nodes
-  start_none r = rw (root_none (keeps k) k (tree_of trees k) r, append-nil) h
+  pub start_none : IsRoot (keeps k) (tree_for trees k) None → Holds keeps (roots_to k trees) nodes
+  start_none r = rw (root_none (keeps k) k (tree_for trees k) r, append-nil) h
 
   pub start_count : length nodes.entries ≤ 2
   start_count = omega (arith, before_few k trees, length-map entry_of (roots_before k trees), length_permutation (map entry_of (roots_before k trees)) nodes.entries h.entries)
 
-  pub steps_none : IsRoot (keeps k) (tree_of trees k) None → length (root_of k (tree_of trees k)) ≡ 0
-  steps_none r = rw (root_none (keeps k) k (tree_of trees k) r) refl
+  pub steps_none : IsRoot (keeps k) (tree_for trees k) None → length (root_of k (tree_for trees k)) ≡ 0
+  steps_none r = rw (root_none (keeps k) k (tree_for trees k) r) refl
 
-  module _ (limited : AreLimited trees) (f : Found K) (r : IsRoot (keeps k) (tree_of trees k) (Some f)) where
-    root : (t : LitTree) × (root_of k (tree_of trees k) ≡ placed k 0 t ∷ []) × IsFound (keeps k) 0 t f
-    root = root_some (keeps k) k (tree_of trees k) f r
+  module _ (limited : AreLimited trees) (f : Found K) (r : IsRoot (keeps k) (tree_for trees k) (Some f)) where
+    root : (t : LitTree) × (root_of k (tree_for trees k) ≡ placed k 0 t ∷ []) × IsFound (keeps k) 0 t f
+    root = root_some (keeps k) k (tree_for trees k) f r
 
     abbrev next : List Placed
     next = roots_before k trees ++ placed k 0 root.0 ∷ []
@@ -130,7 +130,7 @@ module _ {K : Type 0} (keeps : LightKind → ℕ → K → Type 0) (trees : Tree
     pub start_node : f.node < 131072
     start_node = rw root.2.node (omega arith)
 
-    pub steps_some : length (root_of k (tree_of trees k)) ≡ 1
+    pub steps_some : length (root_of k (tree_for trees k)) ≡ 1
     steps_some = rw root.1 refl
 
     pub start_some : (added : NodesParts K) → IsAdded k f nodes added → Holds keeps (roots_to k trees) added

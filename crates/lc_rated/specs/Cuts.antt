@@ -5,7 +5,7 @@ use Rattle.lc_rated.specs.declared.light.NodeLight.{NodeLight}
 use Rattle.lc_rated.specs.declared.answer.Answer.{Answer}
 use Rattle.lc_rated.specs.declared.kind.LightKind.{LightKind}
 use Rattle.lc_rated.specs.declared.kind.LightKind.TheVariants as kind
-use Rattle.lc_rated.specs.LitTrees.{LitTree, leaf, fork, light_of, leaf_count, full_of, red, green, blue, kind_number, Trees, EachTree, IsLimited, most_of_leaf}
+use Rattle.lc_rated.specs.LitTrees.{LitTree, lit_leaf, lit_fork, light_of, leaf_count, full_of, red, green, blue, kind_number, Trees, EachTree, IsLimited, most_of_leaf}
 
 -- a node of a cut: its kind, its number, and the lit tree below it
 pub record Placed : Type 0 where
@@ -21,10 +21,10 @@ abbrev pub greatest_key : List Placed → ℕ
 greatest_key [] = 0
 greatest_key (p ∷ ps) = max (key_of p) (greatest_key ps)
 
--- the two children of a node; a leaf has none, and stays
+-- the two children of a node; a lit_leaf has none, and stays
 abbrev pub parts_of : LightKind → ℕ → LitTree → List Placed
-parts_of kind node (leaf est) = record { kind = kind; node = node; tree = leaf est } ∷ []
-parts_of kind node (fork light left right) =
+parts_of kind node (lit_leaf est) = record { kind = kind; node = node; tree = lit_leaf est } ∷ []
+parts_of kind node (lit_fork light left right) =
     record { kind = kind; node = node + 1; tree = left } ∷ record { kind = kind; node = node + 2 * leaf_count left; tree = right } ∷ []
 
 -- the first node of this key gives way to its children
@@ -73,14 +73,14 @@ abbrev pub stops : ℕ → ℕ → List Placed → Bool
 stops size permille cut =
     (length cut == size) || ((is_within red permille cut && is_within green permille cut) && is_within blue permille cut)
 
--- the least number below n of which the test holds, or n
-abbrev pub least : ℕ → (ℕ → Bool) → ℕ
-least zero test = 0
-least (suc n) test = if test 0 then 0 else suc (least n (λ k. test (suc k)))
+-- the least_passing number below n of which the test holds, or n
+abbrev pub least_passing : ℕ → (ℕ → Bool) → ℕ
+least_passing zero test = 0
+least_passing (suc n) test = if test 0 then 0 else suc (least_passing n (λ k. test (suc k)))
 
 -- how often the roots are refined until a cut stops
 abbrev pub refinements : ℕ → ℕ → List Placed → ℕ
-refinements size permille roots = least size (λ k. stops size permille (cut_at roots k))
+refinements size permille roots = least_passing size (λ k. stops size permille (cut_at roots k))
 
 -- the first cut that stops
 abbrev pub chosen : ℕ → ℕ → List Placed → List Placed

@@ -1,6 +1,6 @@
 // The first cut.
 ghost use Rattle.std.specs.Prelude.{◌≡◌, ◌+◌, ◌≤◌, ◌++◌, List, length};
-ghost use Rattle.lc_rated.specs.LitTrees.{tree_of};
+ghost use Rattle.lc_rated.specs.LitTrees.{tree_for};
 ghost use Rattle.lc_rated.specs.Cuts.{root_of, roots_of, AreLimited};
 ghost use Rattle.lc_rated.specs.Nodes.{Holds, IsCutOf, roots_before};
 
@@ -21,9 +21,9 @@ fn start<T: Lighting, L: Ledger, M: Ledger>(
     requires limited { AreLimited (T.trees lighting.now) }
     requires room { 3 ≤ nodes.old.room }
     requires begun { Holds (T.keeps lighting.now) (roots_before kind (T.trees lighting.now)) nodes.old }
-    ensures begun { Holds (T.keeps lighting.now) (roots_before kind (T.trees lighting.now) ++ root_of kind (tree_of (T.trees lighting.now) kind)) nodes.new }
+    ensures begun { Holds (T.keeps lighting.now) (roots_before kind (T.trees lighting.now) ++ root_of kind (tree_for (T.trees lighting.now) kind)) nodes.new }
     ensures room { nodes.new.room ≡ nodes.old.room }
-    ensures steps { steps.new ≡ steps.old + length (root_of kind (tree_of (T.trees lighting.now) kind)) }
+    ensures steps { steps.new ≡ steps.old + length (root_of kind (tree_for (T.trees lighting.now) kind)) }
 {
     if let Some(root) = lighting.root(kind, steps) {
         nodes.add(kind, root, comparisons);

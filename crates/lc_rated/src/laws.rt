@@ -3,7 +3,7 @@ ghost use Rattle.std.specs.Prelude.{◌≡◌, ℕ, ◌+◌, ◌*◌, ◌<◌, �
 ghost use Rattle.lc_num.specs.declared.channels.Rgb.{Rgb};
 ghost use Rattle.lc_num.specs.Channels.{black};
 ghost use Rattle.lc_rated.specs.declared.light.NodeLight.{NodeLight};
-ghost use Rattle.lc_rated.specs.LitTrees.{LitTree, fork, leaf_count, node_at, Trees, EachTree, IsBounded, IsLimited, AreBounded, most_of_leaf};
+ghost use Rattle.lc_rated.specs.LitTrees.{LitTree, lit_fork, leaf_count, node_at, Trees, EachTree, IsBounded, IsLimited, AreBounded, most_of_leaf};
 ghost use Rattle.lc_rated.specs.Cuts.{Placed, AreLimited, IsFraction, IsInOrder, IsNear, answer, apart, bound_sum, chosen, cut_at, est_sum, full_light, full_sum, greatest_key, leaf_sum, refined, refinements, roots_of, stops};
 
 /// The sequence stops: a cut that does not stop has a node of positive key, which is no leaf, and the next cut has one
@@ -20,8 +20,8 @@ pub fn sequence_stops()
 /// twice the number of leaves of its left child.
 pub fn node_numbers()
     ensures root { (tree : LitTree) → node_at tree 0 ≡ Some tree }
-    ensures left { (tree : LitTree) (p : ℕ) (light : NodeLight) (left right : LitTree) → node_at tree p ≡ Some (fork light left right) → node_at tree (p + 1) ≡ Some left }
-    ensures right { (tree : LitTree) (p : ℕ) (light : NodeLight) (left right : LitTree) → node_at tree p ≡ Some (fork light left right) → node_at tree (p + 2 * leaf_count left) ≡ Some right }
+    ensures left { (tree : LitTree) (p : ℕ) (light : NodeLight) (left right : LitTree) → node_at tree p ≡ Some (lit_fork light left right) → node_at tree (p + 1) ≡ Some left }
+    ensures right { (tree : LitTree) (p : ℕ) (light : NodeLight) (left right : LitTree) → node_at tree p ≡ Some (lit_fork light left right) → node_at tree (p + 2 * leaf_count left) ≡ Some right }
 {}
 
 /// Each cut is in order of kind and number. So of the nodes of greatest key the one of lowest kind and then of lowest

@@ -1,6 +1,6 @@
 // What lights a spot: three light trees, whose nodes are found from the roots down.
 ghost use Rattle.std.specs.Prelude.{◌≡◌, ◌+◌, if◌then◌else◌, IsSome, IsSomeAnd, is_some};
-ghost use Rattle.lc_rated.specs.LitTrees.{tree_of, find};
+ghost use Rattle.lc_rated.specs.LitTrees.{tree_for, find};
 ghost use Rattle.lc_rated.specs.Finding.{IsRoot, IsSplit};
 
 use crate::kind::LightKind;
@@ -42,7 +42,7 @@ pub trait Lighting {
 
     /// The root of the tree of a kind, if there is one. Its representative is evaluated, which counts one step.
     fn root<L: Ledger>(&self, kind: LightKind, steps: &mut Steps<L>) -> Option<Found<Self::Kept>>
-        ensures root { IsRoot (keeps self.now kind) (tree_of (trees self.now) kind) result }
+        ensures root { IsRoot (keeps self.now kind) (tree_for (trees self.now) kind) result }
         ensures steps { steps.new ≡ steps.old + (if is_some result then 1 else 0) };
 
     /// The children of a node, none for a leaf. One representative is evaluated, which counts one step.

@@ -17,11 +17,9 @@ use std::sync::ledger::Ledger;
 /// The numbers of all nodes of a tree of 65,536 leaves are below this.
 const NODES: usize = 131_072;
 
-const BLACK: Rgb = Rgb { r: 0, g: 0, b: 0 };
-
 const DARK: NodeLight = NodeLight {
-    est: BLACK,
-    bound: BLACK,
+    est: Rgb::BLACK,
+    bound: Rgb::BLACK,
 };
 
 /// The nodes of a cut, of which the one of greatest key comes first, in memory that is taken beforehand.

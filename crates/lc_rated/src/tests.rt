@@ -120,19 +120,19 @@ struct Lamps {
 
 impl Lighting for Lamps {
     ghost use Rattle.std.specs.Prelude.{None, Some, slice_index};
-    ghost use Rattle.lc_rated.specs.LitTrees.{fork};
+    ghost use Rattle.lc_rated.specs.LitTrees.{lit_fork};
     ghost use Rattle.lc_rated.specs.Tables.{gray_light, IsEst, two};
 
     type Kept = u16;
 
     ghost trees = { λ t. record {
-      omni = Some (fork (gray_light t.top.est t.top.bound) (two t.west.est t.west.bound (slice_index t.leaves 0) (slice_index t.leaves 1)) (two t.east.est t.east.bound (slice_index t.leaves 2) (slice_index t.leaves 3)));
+      omni = Some (lit_fork (gray_light t.top.est t.top.bound) (two t.west.est t.west.bound (slice_index t.leaves 0) (slice_index t.leaves 1)) (two t.east.est t.east.bound (slice_index t.leaves 2) (slice_index t.leaves 3)));
       oriented = Some (two t.sign.est t.sign.bound t.left t.right);
       sun = None;
     } };
 
     ghost keeps = { λ t. IsEst (record {
-      omni = Some (fork (gray_light t.top.est t.top.bound) (two t.west.est t.west.bound (slice_index t.leaves 0) (slice_index t.leaves 1)) (two t.east.est t.east.bound (slice_index t.leaves 2) (slice_index t.leaves 3)));
+      omni = Some (lit_fork (gray_light t.top.est t.top.bound) (two t.west.est t.west.bound (slice_index t.leaves 0) (slice_index t.leaves 1)) (two t.east.est t.east.bound (slice_index t.leaves 2) (slice_index t.leaves 3)));
       oriented = Some (two t.sign.est t.sign.bound t.left t.right);
       sun = None;
     }) };

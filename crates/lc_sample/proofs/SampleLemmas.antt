@@ -10,7 +10,7 @@ use Rattle.lc_num.specs.declared.vectors.Vec3.{Vec3}
 use Rattle.lc_num.proofs.ScaledLemmas.{scaled_within}
 use Rattle.lc_geom.specs.Crossing.{side}
 use Rattle.lc_geom.specs.Hits.{nearest}
-use Rattle.lc_geom.specs.Triangles.{across, normal_of}
+use Rattle.lc_geom.specs.Triangles.{unscaled_normal, normal_of}
 use Rattle.lc_geom.specs.declared.hit.Hit.{Hit}
 use Rattle.lc_geom.specs.declared.triangle.Tri.{Tri}
 use Rattle.lc_obj.specs.declared.mesh.Triple.{Triple}
@@ -44,7 +44,7 @@ negated_within v h = record { x = negated 16384 v.x h.x; y = negated 16384 v.y h
 pub facing_within : (e : Vec3) (t : Tri) → Within 16384 (facing e t)
 facing_within e t = at (int_lt (side t e) (pos 0)) where
   n : Within 16384 (normal_of t)
-  n = scaled_within (across t) 16384
+  n = scaled_within (unscaled_normal t) 16384
 
   at : (b : Bool) → Within 16384 (if b then difference zero_vector (normal_of t) else normal_of t)
   at true = negated_within (normal_of t) n

@@ -1,7 +1,7 @@
 // The normal where a ray hits a surface.
-ghost use Rattle.std.specs.Prelude.{◌≡◌, ◌≤◌, ◌<◌, ◌^◌, true, pos, int_lt, unsigned_abs};
+ghost use Rattle.std.specs.Prelude.{◌≡◌, ◌≤◌, ◌<◌, ◌^◌, true, pos, unsigned_abs};
 ghost use Rattle.lc_num.specs.Vectors.{Within};
-ghost use Rattle.lc_geom.specs.Crossing.{crosses, side};
+ghost use Rattle.lc_geom.specs.Crossing.{crosses};
 ghost use Rattle.lc_geom.specs.Hits.{moved};
 ghost use Rattle.lc_geom.specs.Triangles.{IsTri};
 ghost use Rattle.lc_geom.specs.Weights.{sum_of};
@@ -11,24 +11,14 @@ ghost use Rattle.lc_sample.specs.Normals.{blended, facing, mixed, normal_at, par
 ghost use Rattle.lc_sample.specs.Surfaces.{IsSurface};
 
 use crate::surface::Surface;
-use lc_geom::{Tri, Weights, moved, normal_of, weights_of};
-use lc_num::{Vec3, cross, difference, dot, scaled, short_square};
+use lc_geom::{Tri, Weights, is_behind, moved, normal_of, weights_of};
+use lc_num::{Vec3, difference, dot, scaled, short_square};
 use lc_obj::Triple;
 use lc_view::Ray;
 
 const NORMAL_LENGTH: u64 = 16_384;
 
 const ZERO: Vec3 = Vec3 { x: 0, y: 0, z: 0 };
-
-/// Whether a place lies on the side of a triangle from which its normal points away.
-fn is_behind(e: Vec3, t: &Tri) -> bool
-    requires e { Within 50_100_000 e }
-    requires t { IsTri t.now }
-    ensures { result ≡ int_lt (side t.now e) (pos 0) }
-{
-    let across = cross(difference(t.b, t.a), difference(t.c, t.a));
-    dot(across, difference(e, t.a)) < 0
-}
 
 /// The normal of a triangle on the side of a place.
 pub(crate) fn facing(e: Vec3, t: &Tri) -> Vec3

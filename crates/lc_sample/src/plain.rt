@@ -1,7 +1,6 @@
 // The sum over all lights at a ray.
 ghost use Rattle.std.specs.Prelude.{◌≡◌, ◌+◌, ◌-◌, ◌*◌, ◌^◌, ◌≤◌, length};
-ghost use Rattle.lc_num.specs.Channels.{IsPowerWithin, IsRgbWithin, plus};
-ghost use Rattle.lc_terms.specs.Channels.{by_power};
+ghost use Rattle.lc_num.specs.Channels.{IsPowerWithin, IsRgbWithin, plus, by_power};
 ghost use Rattle.lc_terms.specs.Spot.{IsSpot};
 ghost use Rattle.lc_cut.specs.Contribution.{contribution, plain, plain_of};
 ghost use Rattle.lc_cut.specs.Forest.{lights_of};
@@ -16,8 +15,6 @@ use lc_num::{Power, Rgb};
 use lc_terms::{Kind, Spot, factor_of};
 use lc_tree::Tree;
 use lc_view::Ray;
-
-const BLACK: Rgb = Rgb { r: 0, g: 0, b: 0 };
 
 /// One channel of a factor times an intensity.
 fn channel(factor: u128, power: u64) -> u128
@@ -60,7 +57,7 @@ fn plain_of<K: Kind, T: Triangles>(tree: &Tree<K>, spot: &Spot, scene: &T) -> Rg
     ensures value { result ≡ plain_of K.meaning (T.list scene.now) spot.now tree.now.lights }
     ensures small { IsRgbWithin (20_000 * 65_536 * 10 ^ 21 * length tree.now.lights) result }
 {
-    let mut sum = BLACK;
+    let mut sum = Rgb::BLACK;
     for light in tree.lights() {
         let more = contribution::<K, T>(spot, light, scene);
         sum = Rgb {
@@ -96,7 +93,7 @@ pub fn plain_sample(scene: &Scene, ray: Ray) -> Rgb
     ensures small { IsRgbWithin (2 ^ 117 - 1) result }
 {
     match spot_seen(scene, ray) {
-        None => BLACK,
+        None => Rgb::BLACK,
         Some(spot) => plain_at(&scene.forest, &spot, &scene.triangles),
     }
 }

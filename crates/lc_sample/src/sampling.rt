@@ -16,16 +16,14 @@ use lc_terms::Spot;
 use lc_view::Ray;
 use std::sync::ledger::Ledger;
 
-const BLACK: Rgb = Rgb { r: 0, g: 0, b: 0 };
-
 fn no_answer() -> Answer
     ensures { result ≡ no_answer }
 {
     Answer {
         size: 0,
         evals: 0,
-        est: BLACK,
-        bound: BLACK,
+        est: Rgb::BLACK,
+        bound: Rgb::BLACK,
     }
 }
 

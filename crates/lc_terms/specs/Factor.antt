@@ -1,11 +1,10 @@
 -- The material term of a spot, and the factor of a light that is seen there.
 use Rattle.std.specs.Prelude.{ℕ, ◌+◌, ◌*◌, ◌==◌, if◌then◌else◌}
-use Rattle.lc_num.specs.Channels.{black}
+use Rattle.lc_num.specs.Channels.{black, times}
 use Rattle.lc_num.specs.Cosines.{cos16}
 use Rattle.lc_num.specs.Powers.{pow16}
 use Rattle.lc_num.specs.declared.vectors.Vec3.{Vec3}
 use Rattle.lc_num.specs.declared.channels.Rgb.{Rgb}
-use Rattle.lc_terms.specs.Channels.{times}
 use Rattle.lc_terms.specs.declared.spot.Spot.{Spot}
 
 -- the diffuse colour by a cosine, and the specular colour by a highlight

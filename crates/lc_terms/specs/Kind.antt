@@ -1,6 +1,6 @@
 -- What a kind of light means, and what every kind keeps.
 use Rattle.std.specs.Prelude.{◌≡◌, ℕ, ◌+◌, ◌*◌, ◌≤◌, ◌^◌, ◌⊎◌, Bool, not, List, if◌then◌else◌}
-use Rattle.lc_num.specs.Channels.{black, IsPowerWithin, IsRgbWithin}
+use Rattle.lc_num.specs.Channels.{black, IsPowerWithin, IsRgbWithin, by_power, power_plus, IsAtMost}
 use Rattle.lc_num.specs.Vectors.{Within}
 use Rattle.lc_num.specs.declared.vectors.Vec3.{Vec3}
 use Rattle.lc_num.specs.declared.channels.Rgb.{Rgb}
@@ -9,7 +9,6 @@ use Rattle.lc_num.specs.declared.rules.Rule.{Rule}
 use Rattle.lc_num.specs.declared.rules.Rule.TheVariants as rule
 use Rattle.lc_geom.specs.declared.triangle.Tri.{Tri}
 use Rattle.lc_geom.specs.Hits.{blocked}
-use Rattle.lc_terms.specs.Channels.{by_power, power_plus, IsAtMost}
 use Rattle.lc_terms.specs.Factor.{factor}
 use Rattle.lc_terms.specs.Spot.{IsSpot}
 use Rattle.lc_terms.specs.declared.spot.Spot.{Spot}

@@ -1,12 +1,11 @@
 -- The plainest kind, which tests use: lamps with a place and an intensity, whose geometric term is 0. Clumps are the
 -- summed intensity and the count.
 use Rattle.std.proofs.Common.{◌≡◌, ℕ, ◌+◌, ◌*◌, ◌≤◌, ◌^◌, arith, refl}
-use Rattle.lc_num.specs.Channels.{black, IsPowerWithin}
+use Rattle.lc_num.specs.Channels.{black, IsPowerWithin, power_plus, times, IsAtMost}
 use Rattle.lc_num.specs.Vectors.{Within, zero_vector}
 use Rattle.lc_num.specs.declared.vectors.Vec3.{Vec3}
 use Rattle.lc_num.specs.declared.channels.Rgb.{Rgb}
 use Rattle.lc_num.specs.declared.channels.Power.{Power}
-use Rattle.lc_terms.specs.Channels.{power_plus, times, IsAtMost}
 use Rattle.lc_terms.specs.Factor.{material}
 use Rattle.lc_terms.specs.Kind.{Meaning, Laws}
 use Rattle.lc_terms.specs.SeenLaws.{black-below, factor-below}

@@ -1,9 +1,8 @@
 -- What bounds the factor of a light that is seen bounds it also where something blocks the light.
 use Rattle.std.proofs.Common.{Bool, true, false, List, if◌then◌else◌, arith}
-use Rattle.lc_num.specs.Channels.{black}
+use Rattle.lc_num.specs.Channels.{black, IsAtMost}
 use Rattle.lc_num.specs.declared.channels.Rgb.{Rgb}
 use Rattle.lc_geom.specs.declared.triangle.Tri.{Tri}
-use Rattle.lc_terms.specs.Channels.{IsAtMost}
 use Rattle.lc_terms.specs.Factor.{factor}
 use Rattle.lc_terms.specs.Kind.{Meaning, is_seen, factor_of}
 use Rattle.lc_terms.specs.declared.spot.Spot.{Spot}

@@ -1,7 +1,6 @@
 // The factor of a light at a spot.
 ghost use Rattle.std.specs.Prelude.{◌≡◌, ◌+◌, ◌*◌, ◌^◌, ◌≤◌};
-ghost use Rattle.lc_num.specs.Channels.{IsRgbWithin};
-ghost use Rattle.lc_terms.specs.Channels.{times};
+ghost use Rattle.lc_num.specs.Channels.{IsPowerWithin, IsRgbWithin, by_power, times};
 ghost use Rattle.lc_terms.specs.Factor.{factor};
 ghost use Rattle.lc_terms.specs.Kind.{factor_of};
 ghost use Rattle.lc_terms.specs.Spot.{IsSpot};
@@ -10,10 +9,8 @@ use crate::kind::Kind;
 use crate::reflection::material;
 use crate::spot::Spot;
 use lc_geom::Triangles;
-use lc_num::{Rgb, Steps};
+use lc_num::{Power, Rgb, Steps};
 use std::sync::ledger::Ledger;
-
-const BLACK: Rgb = Rgb { r: 0, g: 0, b: 0 };
 
 fn channel(geometry: u64, material: u128) -> u128
     requires geometry { geometry ≤ 10 ^ 13 }
@@ -22,6 +19,28 @@ fn channel(geometry: u64, material: u128) -> u128
     ensures small { result ≤ 20_000 * 65_536 * 10 ^ 13 }
 {
     geometry as u128 * (material as u64) as u128
+}
+
+/// One channel of a factor times an intensity.
+fn powered(factor: u128, power: u64) -> u128
+    requires factor { factor ≤ 20_000 * 65_536 * 10 ^ 13 }
+    requires power { power ≤ 10 ^ 8 * 65_536 }
+    ensures { result ≡ factor * power }
+{
+    factor * power as u128
+}
+
+/// A factor times an intensity, in each channel: what a light of this intensity gives to the spot.
+pub fn by_power(factor: Rgb, power: Power) -> Rgb
+    requires factor { IsRgbWithin (20_000 * 65_536 * 10 ^ 13) factor }
+    requires power { IsPowerWithin (10 ^ 8 * 65_536) power }
+    ensures { result ≡ by_power factor power }
+{
+    Rgb {
+        r: powered(factor.r, power.r),
+        g: powered(factor.g, power.g),
+        b: powered(factor.b, power.b),
+    }
 }
 
 fn times(geometry: u64, material: Rgb) -> Rgb
@@ -45,8 +64,8 @@ fn unblocked<K: Kind>(spot: &Spot, light: &K::Light) -> Rgb
     ensures small { IsRgbWithin (20_000 * 65_536 * 10 ^ 13) result }
 {
     let material = material(spot, K::toward(spot.x, light));
-    if material == BLACK {
-        return BLACK;
+    if material == Rgb::BLACK {
+        return Rgb::BLACK;
     }
     times(K::geometry(spot.x, light), material)
 }
@@ -61,8 +80,8 @@ pub fn factor_of<K: Kind, T: Triangles>(spot: &Spot, light: &K::Light, scene: &T
     ensures small { IsRgbWithin (20_000 * 65_536 * 10 ^ 13) result }
 {
     let factor = unblocked::<K>(spot, light);
-    if factor == BLACK || scene.blocked(spot.x, K::target(spot.x, light)) {
-        BLACK
+    if factor == Rgb::BLACK || scene.blocked(spot.x, K::target(spot.x, light)) {
+        Rgb::BLACK
     } else {
         factor
     }

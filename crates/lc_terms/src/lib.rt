@@ -6,7 +6,7 @@ mod kind;
 mod reflection;
 mod spot;
 
-pub use factor::{eval, factor_of};
+pub use factor::{by_power, eval, factor_of};
 pub use kind::Kind;
 pub use reflection::material;
 pub use spot::Spot;

@@ -12,8 +12,6 @@ use lc_num::{Colour, Rgb, Vec3, cos16, pow16};
 
 const NONE: Colour = Colour { r: 0, g: 0, b: 0 };
 
-const BLACK: Rgb = Rgb { r: 0, g: 0, b: 0 };
-
 /// The highlight of a spot for light from `b`, in 1/65536. No specular colour makes use of it where it is black, and then
 /// it is not worked out.
 fn highlight(spot: &Spot, b: Vec3) -> u32
@@ -68,7 +66,7 @@ pub fn material(spot: &Spot, b: Vec3) -> Rgb
 {
     let cosine = cos16(spot.n, b);
     if cosine == 0 {
-        return BLACK;
+        return Rgb::BLACK;
     }
     reflected(spot, cosine, highlight(spot, b))
 }

@@ -6,7 +6,7 @@ use Rattle.std.proofs.lemmas.List.Sums.{sum_by-append, sum_by-cons}
 use Rattle.std.proofs.lemmas.Option.{none-some}
 use Rattle.lc_num.specs.declared.channels.Power.{Power}
 use Rattle.lc_terms.specs.Kind.{Meaning, Laws}
-use Rattle.lc_terms.specs.Channels.{power_plus}
+use Rattle.lc_num.specs.Channels.{power_plus}
 use Rattle.lc_tree.specs.declared.row.Row.{Row}
 use Rattle.lc_tree.specs.Build.{power_weight, weight_of}
 use Rattle.lc_tree.specs.Cover.{power_sum, IsClumpOf, IsLeaderOf}

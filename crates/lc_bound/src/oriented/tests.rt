@@ -10,8 +10,6 @@ use std::test::*;
 
 const ORIGIN: Vec3 = Vec3 { x: 0, y: 0, z: 0 };
 
-const BLACK: Rgb = Rgb { r: 0, g: 0, b: 0 };
-
 /// A light 5.0000 from the origin that shines straight down.
 fn lamp() -> Oriented
     ensures { IsOriented result }
@@ -140,7 +138,7 @@ fn one_light_is_bounded_by_its_own_factor(rt: HostRuntime) {
         top
     );
     let dark = of_one(&lamp_that_shines_up());
-    assert_eq!(rt; OrientedKind::top(&ground(), &dark, Rule::One), BLACK);
+    assert_eq!(rt; OrientedKind::top(&ground(), &dark, Rule::One), Rgb::BLACK);
 }
 
 #[test]

@@ -1,5 +1,5 @@
 use Rattle.std.proofs.Common.{arith}
-use Rattle.lc_geom.proofs.triangle.across.Goals as goal
+use Rattle.lc_geom.proofs.triangle.unscaled_normal.Goals as goal
 
 pub returns-clause-within : goal.returns-clause-within
 returns-clause-within c =

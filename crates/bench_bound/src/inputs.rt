@@ -76,7 +76,8 @@ impl Random {
         Power { r, g, b }
     }
 
-    /// A spot without a highlight of the octant in which no coordinate is positive, whose normal has no negative component.
+    /// A spot without a highlight of the octant in which no coordinate is positive, whose normal has no negative
+    /// component.
     fn spot(&mut self) -> Spot
         ensures spot { IsSpot result }
     {

@@ -1,6 +1,7 @@
 //! Bounds what seeded clumps of lights give to seeded spots, and prints a checksum of each kind of bound.
 //!
-//! The arguments are the number of rounds over the inputs and, for the nanoseconds that each kind took, the word `time`.
+//! The arguments are the number of rounds over the inputs and, for the nanoseconds that each kind took, the word
+//! `time`.
 #![tactic(auto)]
 
 mod inputs;

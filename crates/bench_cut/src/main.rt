@@ -1,4 +1,5 @@
-//! Cuts through the trees of seeded lights of three kinds at seeded spots, with no triangle between them, and prints how many lights were evaluated and a checksum.
+//! Cuts through the trees of seeded lights of three kinds at seeded spots, with no triangle between them, and prints
+//! how many lights were evaluated and a checksum.
 //!
 //! The arguments are the number of lights, the number of spots and, for the nanoseconds, the word `time`.
 #![tactic(auto)]

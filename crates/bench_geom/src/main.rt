@@ -1,6 +1,7 @@
 //! Tests seeded segments and rays against seeded triangles of a room, and prints a checksum of each kind of test.
 //!
-//! The arguments are the number of rounds over the inputs and, for the nanoseconds that each kind took, the word `time`.
+//! The arguments are the number of rounds over the inputs and, for the nanoseconds that each kind took, the word
+//! `time`.
 #![tactic(auto)]
 
 mod inputs;

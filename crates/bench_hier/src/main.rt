@@ -1,8 +1,8 @@
 //! Builds the hierarchy of boxes of a seeded room, asks it whether seeded segments are blocked and what seeded rays hit
 //! first, and prints a checksum of each kind of query and how many triangles were tested for each kind of segment.
 //!
-//! The arguments are the number of cells along each side of the room's faces, the number of rounds over the queries and, for
-//! the nanoseconds that each kind and the building took, the word `time`.
+//! The arguments are the number of cells along each side of the room's faces, the number of rounds over the queries
+//! and, for the nanoseconds that each kind and the building took, the word `time`.
 #![tactic(auto)]
 
 mod inputs;

@@ -25,7 +25,8 @@ struct Side {
     ghost z_short: { z ≤ 100_000 },
 }
 
-/// A rectangle from one of its corners. From where one sees it the turn from the first side to the second is against the clock.
+/// A rectangle from one of its corners. From where one sees it the turn from the first side to the second is against
+/// the clock.
 #[derive(Clone, Copy)]
 struct Face {
     corner: Vec3,

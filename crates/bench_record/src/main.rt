@@ -1,5 +1,5 @@
-//! Reads a record, and prints the rule of its bounds, how many samples it has, and how many clusters of lights their cuts have
-//! together, or its first fault.
+//! Reads a record, and prints the rule of its bounds, how many samples it has, and how many clusters of lights their
+//! cuts have together, or its first fault.
 //!
 //! The arguments are the name of the file and, for the nanoseconds, the word `time`.
 #![tactic(auto)]

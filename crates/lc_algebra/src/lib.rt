@@ -35,6 +35,12 @@ pub fn ratio_roots()
 /// Two triples of numbers: the product of their squared lengths is the square of their product and the squared
 /// length of their cross product (Lagrange), and so at least the square of their product (Cauchy and Schwarz).
 pub fn six_numbers()
-    ensures lagrange { (a b c d e f : ℤ) → (a *ℤ a +ℤ b *ℤ b +ℤ c *ℤ c) *ℤ (d *ℤ d +ℤ e *ℤ e +ℤ f *ℤ f) ≡ (a *ℤ d +ℤ b *ℤ e +ℤ c *ℤ f) *ℤ (a *ℤ d +ℤ b *ℤ e +ℤ c *ℤ f) +ℤ ((b *ℤ f -ℤ c *ℤ e) *ℤ (b *ℤ f -ℤ c *ℤ e) +ℤ (c *ℤ d -ℤ a *ℤ f) *ℤ (c *ℤ d -ℤ a *ℤ f) +ℤ (a *ℤ e -ℤ b *ℤ d) *ℤ (a *ℤ e -ℤ b *ℤ d)) }
-    ensures cauchy_schwarz { (a b c d e f : ℤ) → ((a *ℤ d +ℤ b *ℤ e +ℤ c *ℤ f) *ℤ (a *ℤ d +ℤ b *ℤ e +ℤ c *ℤ f)) ≤ℤ ((a *ℤ a +ℤ b *ℤ b +ℤ c *ℤ c) *ℤ (d *ℤ d +ℤ e *ℤ e +ℤ f *ℤ f)) }
+    ensures lagrange { (a b c d e f : ℤ)
+        → (a *ℤ a +ℤ b *ℤ b +ℤ c *ℤ c) *ℤ (d *ℤ d +ℤ e *ℤ e +ℤ f *ℤ f)
+        ≡ (a *ℤ d +ℤ b *ℤ e +ℤ c *ℤ f) *ℤ (a *ℤ d +ℤ b *ℤ e +ℤ c *ℤ f) +ℤ
+        ((b *ℤ f -ℤ c *ℤ e) *ℤ (b *ℤ f -ℤ c *ℤ e) +ℤ (c *ℤ d -ℤ a *ℤ f) *ℤ (c *ℤ d -ℤ a *ℤ f) +ℤ
+        (a *ℤ e -ℤ b *ℤ d) *ℤ (a *ℤ e -ℤ b *ℤ d)) }
+    ensures cauchy_schwarz { (a b c d e f : ℤ)
+        → ((a *ℤ d +ℤ b *ℤ e +ℤ c *ℤ f) *ℤ (a *ℤ d +ℤ b *ℤ e +ℤ c *ℤ f)) ≤ℤ
+        ((a *ℤ a +ℤ b *ℤ b +ℤ c *ℤ c) *ℤ (d *ℤ d +ℤ e *ℤ e +ℤ f *ℤ f)) }
 {}

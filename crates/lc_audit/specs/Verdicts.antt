@@ -101,8 +101,8 @@ verdict scene job lines step =
 
 -- ---- what a line promises
 
--- The estimate of a line differs from the sum over all lights by at most its bound in each channel, and the bound is within the
--- job's permille of the estimate unless the cut has the job's greatest size.
+-- The estimate of a line differs from the sum over all lights by at most its bound in each channel, and the bound is
+-- within the job's permille of the estimate unless the cut has the job's greatest size.
 pub record HoldsBy (job : Job) (light : Rgb) (line : Answer) : Type 0 where
   pub near : IsNear light line
   pub fraction : (line.size ≡ job.cut) ⊎ IsFraction job.permille line

@@ -31,10 +31,11 @@ fn look(scene: &Scene, job: &Job, kept: &Record, step: u64, turn: u64) -> Sample
     }
 }
 
-/// Computes the sum over all lights, each with its own visibility against every triangle, at the samples 0, `step`, twice
-/// `step` and so on of a record, and says whether what their lines tell of it holds: that the estimate is at most the
-/// bound away, and that the bound is at most the job's thousandths of the estimate, unless the cut has the job's greatest
-/// size. The step is at least 1. Channels are looked at in the order of their numbers. It takes no memory.
+/// Computes the sum over all lights, each with its own visibility against every triangle, at the samples 0, `step`,
+/// twice `step` and so on of a record, and says whether what their lines tell of it holds: that the estimate is at
+/// most the bound away, and that the bound is at most the job's thousandths of the estimate, unless the cut has the
+/// job's greatest size. The step is at least 1. Channels are looked at in the order of their numbers. It takes no
+/// memory.
 pub fn audit(scene: &Scene, job: &Job, kept: &Record, step: u64) -> Verdict
     requires job { IsJob job.now }
     requires step { 1 ≤ step }

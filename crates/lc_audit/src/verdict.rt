@@ -10,9 +10,9 @@ pub enum Verdict {
     No(Miss),
 }
 
-/// A sample and a channel where the recorded bound does not hold: the estimate is further from the sum over all lights, or
-/// the bound is above the job's thousandths of the estimate although the cut has not the job's greatest size. One unit of
-/// radiance is `65536 * 10^17`.
+/// A sample and a channel where the recorded bound does not hold: the estimate is further from the sum over all
+/// lights, or the bound is above the job's thousandths of the estimate although the cut has not the job's greatest
+/// size. One unit of radiance is `65536 * 10^17`.
 #[derive(Clone, Copy, Debug, PartialEq, Eq)]
 pub struct Miss {
     /// The number of the sample, from 0, in the order of the record's lines.

@@ -25,13 +25,16 @@ point_box-within m p h = record { lo = h; hi = h }
 -- ---- around two boxes
 
 pub hull-within : (m : ℕ) (a b : Ends) → IsBoxWithin m a → IsBoxWithin m b → IsBoxWithin m (hull a b)
-hull-within m a b ha hb = record { lo = lesser_within m a.lo b.lo ha.lo hb.lo; hi = greater_within m a.hi b.hi ha.hi hb.hi }
+hull-within m a b ha hb =
+    record { lo = lesser_within m a.lo b.lo ha.lo hb.lo; hi = greater_within m a.hi b.hi ha.hi hb.hi }
 
 from_left : (lo hi p lo2 hi2 : ℤ) → (lo ≤ℤ p) × (p ≤ℤ hi) → (int_min lo lo2 ≤ℤ p) × (p ≤ℤ int_max hi hi2)
-from_left lo hi p lo2 hi2 h = let low = h.0 in let high = h.1 in (omega (arith, ints, clamps), omega (arith, ints, clamps))
+from_left lo hi p lo2 hi2 h =
+    let low = h.0 in let high = h.1 in (omega (arith, ints, clamps), omega (arith, ints, clamps))
 
 from_right : (lo hi p lo2 hi2 : ℤ) → (lo2 ≤ℤ p) × (p ≤ℤ hi2) → (int_min lo lo2 ≤ℤ p) × (p ≤ℤ int_max hi hi2)
-from_right lo hi p lo2 hi2 h = let low = h.0 in let high = h.1 in (omega (arith, ints, clamps), omega (arith, ints, clamps))
+from_right lo hi p lo2 hi2 h =
+    let low = h.0 in let high = h.1 in (omega (arith, ints, clamps), omega (arith, ints, clamps))
 
 pub hull-inside : (a b : Ends) (p : Vec3) → IsInside a p ⊎ IsInside b p → IsInside (hull a b) p
 hull-inside a b p (inl h) = record {
@@ -49,7 +52,8 @@ around : (lo hi lo2 hi2 : ℤ) → lo ≤ℤ hi → int_min lo lo2 ≤ℤ int_ma
 around lo hi lo2 hi2 h = omega (arith, ints, clamps)
 
 pub hull-ordered : (a b c d : Vec3) → IsOrdered a c → IsOrdered (lesser a b) (greater c d)
-hull-ordered a b c d h = record { x = around a.x c.x b.x d.x h.x; y = around a.y c.y b.y d.y h.y; z = around a.z c.z b.z d.z h.z }
+hull-ordered a b c d h =
+    record { x = around a.x c.x b.x d.x h.x; y = around a.y c.y b.y d.y h.y; z = around a.z c.z b.z d.z h.z }
 
 -- ---- as seen from a place
 
@@ -66,8 +70,10 @@ difference-within m n a b ha hb = record {
   z = difference_small m n a.z b.z ha.z hb.z;
 }
 
-pub box_from-within : (m n : ℕ) (x : Vec3) (box : Ends) → Within m x → IsBoxWithin n box → IsBoxWithin (n + m) (box_from x box)
-box_from-within m n x box hx hb = record { lo = difference-within n m box.lo x hb.lo hx; hi = difference-within n m box.hi x hb.hi hx }
+pub box_from-within : (m n : ℕ) (x : Vec3) (box : Ends) → Within m x → IsBoxWithin n box
+    → IsBoxWithin (n + m) (box_from x box)
+box_from-within m n x box hx hb =
+    record { lo = difference-within n m box.lo x hb.lo hx; hi = difference-within n m box.hi x hb.hi hx }
 
 moved : (lo hi p x : ℤ) → (lo ≤ℤ p) × (p ≤ℤ hi) → ((lo -ℤ x) ≤ℤ (p -ℤ x)) × ((p -ℤ x) ≤ℤ (hi -ℤ x))
 moved lo hi p x h = let low = h.0 in let high = h.1 in (omega (arith, ints), omega (arith, ints))
@@ -76,7 +82,8 @@ moved_order : (a b x : ℤ) → a ≤ℤ b → (a -ℤ x) ≤ℤ (b -ℤ x)
 moved_order a b x h = omega (arith, ints)
 
 pub box_from-ordered : (a b x : Vec3) → IsOrdered a b → IsOrdered (difference a x) (difference b x)
-box_from-ordered a b x h = record { x = moved_order a.x b.x x.x h.x; y = moved_order a.y b.y x.y h.y; z = moved_order a.z b.z x.z h.z }
+box_from-ordered a b x h =
+    record { x = moved_order a.x b.x x.x h.x; y = moved_order a.y b.y x.y h.y; z = moved_order a.z b.z x.z h.z }
 
 pub box_from-inside : (x : Vec3) (box : Ends) (p : Vec3) → IsInside box p → IsInside (box_from x box) (difference p x)
 box_from-inside x box p h = record {
@@ -87,8 +94,10 @@ box_from-inside x box p h = record {
 
 -- ---- as a place is seen from it
 
-pub box_to-within : (m n : ℕ) (x : Vec3) (box : Ends) → Within m x → IsBoxWithin n box → IsBoxWithin (m + n) (box_to x box)
-box_to-within m n x box hx hb = record { lo = difference-within m n x box.hi hx hb.hi; hi = difference-within m n x box.lo hx hb.lo }
+pub box_to-within : (m n : ℕ) (x : Vec3) (box : Ends) → Within m x → IsBoxWithin n box
+    → IsBoxWithin (m + n) (box_to x box)
+box_to-within m n x box hx hb =
+    record { lo = difference-within m n x box.hi hx hb.hi; hi = difference-within m n x box.lo hx hb.lo }
 
 turned : (lo hi p x : ℤ) → (lo ≤ℤ p) × (p ≤ℤ hi) → ((x -ℤ hi) ≤ℤ (x -ℤ p)) × ((x -ℤ p) ≤ℤ (x -ℤ lo))
 turned lo hi p x h = let low = h.0 in let high = h.1 in (omega (arith, ints), omega (arith, ints))
@@ -97,7 +106,8 @@ turned_order : (a b x : ℤ) → a ≤ℤ b → (x -ℤ b) ≤ℤ (x -ℤ a)
 turned_order a b x h = omega (arith, ints)
 
 pub box_to-ordered : (a b x : Vec3) → IsOrdered a b → IsOrdered (difference x b) (difference x a)
-box_to-ordered a b x h = record { x = turned_order a.x b.x x.x h.x; y = turned_order a.y b.y x.y h.y; z = turned_order a.z b.z x.z h.z }
+box_to-ordered a b x h =
+    record { x = turned_order a.x b.x x.x h.x; y = turned_order a.y b.y x.y h.y; z = turned_order a.z b.z x.z h.z }
 
 pub box_to-inside : (x : Vec3) (box : Ends) (p : Vec3) → IsInside box p → IsInside (box_to x box) (difference x p)
 box_to-inside x box p h = record {

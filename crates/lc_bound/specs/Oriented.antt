@@ -80,7 +80,8 @@ total_of c = c.total
 
 -- the greatest cosine at which light leaves toward x, and the geometric bound at the least distance to the box
 abbrev pub geometry_top : Vec3 → Clump → Rule → ℕ
-geometry_top x c r = emitted (emission_top r c.normals c.least (box_to x c.box) (near2 x c.box)) (falloff (near2 x c.box))
+geometry_top x c r =
+    emitted (emission_top r c.normals c.least (box_to x c.box) (near2 x c.box)) (falloff (near2 x c.box))
 
 -- the material bound and the geometric bound
 abbrev pub reach : Spot → Clump → Rule → Rgb

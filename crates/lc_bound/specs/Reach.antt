@@ -28,7 +28,7 @@ abbrev pub emission_top : Rule → Ends → ℕ → Ends → ℕ → ℕ
 emission_top rule.One normals least_n offsets least_d = emit_top normals least_n offsets least_d
 emission_top rule.Two normals least_n offsets least_d = emit_top2 normals least_n offsets least_d
 
--- a bound of the material term of a spot for light from the vectors of the box whose squared length is at least `least`:
--- the term at the greatest cosines to the normal and to the mirrored view
+-- a bound of the material term of a spot for light from the vectors of the box whose squared length is at least
+-- `least`: the term at the greatest cosines to the normal and to the mirrored view
 abbrev pub material_top : Spot → Ends → ℕ → Rule → Rgb
 material_top spot box least r = material_by spot (cosine_top r spot.n box least) (cosine_top r spot.r box least)

@@ -58,7 +58,8 @@ abbrev pub one : Sun → Clump
 one light = record { box = point_box light.toward; least = square light.toward; total = light.power; count = 1 }
 
 abbrev pub join : Clump → Clump → Clump
-join a b = record { box = hull a.box b.box; least = min a.least b.least; total = power_plus a.total b.total; count = a.count + b.count }
+join a b =
+    record { box = hull a.box b.box; least = min a.least b.least; total = power_plus a.total b.total; count = a.count + b.count }
 
 abbrev pub count_of : Clump → ℕ
 count_of c = c.count

@@ -20,7 +20,8 @@ use Rattle.lc_bound.specs.Sun.{Clump, IsClump, Covers, toward, target, geometry,
 use Rattle.lc_bound.specs.HullLaws.{point_box-inside, point_box-within, hull-within, hull-inside, within_more}
 use Rattle.lc_bound.specs.ReachLaws.{material-below, material_top-sharper, material_top-small, times-rises, times-small}
 
-beyond_small : (a d : ℤ) → unsigned_abs a ≤ 50_100_000 → unsigned_abs d ≤ 16384 → unsigned_abs (a +ℤ (pos 16384 *ℤ d)) ≤ 320_000_000
+beyond_small : (a d : ℤ) → unsigned_abs a ≤ 50_100_000 → unsigned_abs d ≤ 16384
+    → unsigned_abs (a +ℤ (pos 16384 *ℤ d)) ≤ 320_000_000
 beyond_small a d ha hd = omega (arith, ints)
 
 target_within : (x : Vec3) (light : Sun) → Within 50_100_000 x → IsSun light → Within 320_000_000 (target x light)
@@ -45,25 +46,33 @@ join_valid a b ha hb few = record {
   least = omega (arith, ha.least);
   some = omega (arith, ha.some);
   few = few;
-  total = record { r = omega (arith, ha.total.r, hb.total.r); g = omega (arith, ha.total.g, hb.total.g); b = omega (arith, ha.total.b, hb.total.b) };
+  total =
+      record { r = omega (arith, ha.total.r, hb.total.r); g = omega (arith, ha.total.g, hb.total.g); b = omega
+          (arith, ha.total.b, hb.total.b) };
 }
 
 join_covers : (a b : Clump) (light : Sun) → Covers a light ⊎ Covers b light → Covers (join a b) light
-join_covers a b light (inl h) = record { inside = hull-inside a.box b.box light.toward (inl h.inside); long = omega (arith, h.long) }
-join_covers a b light (inr h) = record { inside = hull-inside a.box b.box light.toward (inr h.inside); long = omega (arith, h.long) }
+join_covers a b light (inl h) =
+    record { inside = hull-inside a.box b.box light.toward (inl h.inside); long = omega (arith, h.long) }
+join_covers a b light (inr h) =
+    record { inside = hull-inside a.box b.box light.toward (inr h.inside); long = omega (arith, h.long) }
 
-reach_within : (spot : Spot) (c : Clump) (r : Rule) → IsSpot spot → IsClump c → IsRgbWithin (20_000 * 65_536 * 10 ^ 13) (reach spot c r)
-reach_within spot c r hs hc = times-small (10 ^ 9) (material_top spot c.box c.least r) (omega arith) (material_top-small spot c.box c.least r hs)
+reach_within : (spot : Spot) (c : Clump) (r : Rule) → IsSpot spot → IsClump c
+    → IsRgbWithin (20_000 * 65_536 * 10 ^ 13) (reach spot c r)
+reach_within spot c r hs hc =
+    times-small (10 ^ 9) (material_top spot c.box c.least r) (omega arith) (material_top-small spot c.box c.least r hs)
 
 -- no sun of the box that is seen has a greater factor than the bound over the box
-seen_dominates : (spot : Spot) (c : Clump) (r : Rule) (light : Sun) → IsSpot spot → IsClump c → IsSun light → Covers c light → IsAtMost (reach spot c r) (factor spot (toward spot.x light) (geometry spot.x light))
+seen_dominates : (spot : Spot) (c : Clump) (r : Rule) (light : Sun) → IsSpot spot → IsClump c → IsSun light
+    → Covers c light → IsAtMost (reach spot c r) (factor spot (toward spot.x light) (geometry spot.x light))
 seen_dominates spot c r light hs hc hl covered =
     times-rises (10 ^ 9) (10 ^ 9) (material spot light.toward) (material_top spot c.box c.least r) (le_refl (10 ^ 9))
     (material-below spot c.box c.least r light.toward covered.inside covered.long)
 
 sharper : (spot : Spot) (c : Clump) → IsAtMost (reach spot c rule.One) (reach spot c rule.Two)
 sharper spot c =
-    times-rises (10 ^ 9) (10 ^ 9) (material_top spot c.box c.least rule.Two) (material_top spot c.box c.least rule.One) (le_refl (10 ^ 9))
+    times-rises (10 ^ 9) (10 ^ 9) (material_top spot c.box c.least rule.Two)
+        (material_top spot c.box c.least rule.One) (le_refl (10 ^ 9))
     (material_top-sharper spot c.box c.least)
 
 pub sun_laws : Laws sun_meaning
@@ -85,6 +94,8 @@ sun_laws = record {
   total_within = λ c h. h.total;
   reach_within = reach_within;
   top_is = λ spot c r hs hc. refl;
-  dominates = λ ts spot c r light hs hc hl h. factor-below sun_meaning ts spot light (reach spot c r) (seen_dominates spot c r light hs hc hl h);
+  dominates =
+      λ ts spot c r light hs hc hl h.
+          factor-below sun_meaning ts spot light (reach spot c r) (seen_dominates spot c r light hs hc hl h);
   sharper = λ spot c hs hc. sharper spot c;
 }

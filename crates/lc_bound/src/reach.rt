@@ -17,8 +17,8 @@ pub fn falloff(square: u64) -> u64
     100_000_000_000_000_000 / square.max(10_000)
 }
 
-/// The geometric term of a light that leaves its surface at a cosine in 1/65536: that of a light without a surface times
-/// the cosine, rounded down.
+/// The geometric term of a light that leaves its surface at a cosine in 1/65536: that of a light without a surface
+/// times the cosine, rounded down.
 pub fn emitted(cosine: u32, geometry: u64) -> u64
     requires cosine { cosine ≤ 65_536 }
     requires geometry { geometry ≤ 10 ^ 13 }
@@ -28,7 +28,8 @@ pub fn emitted(cosine: u32, geometry: u64) -> u64
     cosine as u64 * geometry / 65_536
 }
 
-/// One channel of a colour times the summed intensity, where `scale` is the geometric bound times a cosine or a highlight.
+/// One channel of a colour times the summed intensity, where `scale` is the geometric bound times a cosine or a
+/// highlight.
 fn channel(scale: u64, colour: u32, total: u64) -> u128
     requires scale { scale ≤ 10 ^ 13 * 65_536 }
     requires colour { colour ≤ 10_000 }

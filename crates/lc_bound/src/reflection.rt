@@ -37,15 +37,16 @@ fn highlight_top(spot: &Spot, span: Span3, least: u128, rule: Rule) -> u32
     pow16(cosine_top(spot.r, span, least, rule), spot.ns)
 }
 
-/// A bound of what a spot sends back of light from the vectors of a box that are no shorter than `least`, and `None` where
-/// that is nothing.
+/// A bound of what a spot sends back of light from the vectors of a box that are no shorter than `least`, and `None`
+/// where that is nothing.
 pub fn reflection_top(spot: &Spot, span: Span3, least: u128, rule: Rule) -> Option<Reflection>
     requires spot { IsSpot spot.now }
     requires normal { CanBound spot.now.n span }
     requires mirrored { CanBound spot.now.r span }
     requires least { least ≤ 3 * (100_100_000 * 100_100_000) }
     ensures none { IfNone result (material_top spot.now span least rule ≡ black) }
-    ensures value { IfSome result (λ top. reflected spot.now top.cosine top.highlight ≡ material_top spot.now span least rule) }
+    ensures value { IfSome result (λ top. reflected spot.now top.cosine top.highlight
+        ≡ material_top spot.now span least rule) }
     ensures cosine { IfSome result (λ top. top.cosine ≤ 65_536) }
     ensures highlight { IfSome result (λ top. top.highlight ≤ 65_536) }
 {

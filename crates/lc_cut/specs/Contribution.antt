@@ -26,4 +26,5 @@ module _ {L C : Type 0} where
 -- the sum over all lights of the three kinds, each with its own visibility against every triangle
 abbrev pub plain : List Tri → Spot → Lights → Rgb
 plain ts spot lights =
-    plus (plus (plain_of omni_meaning ts spot lights.omni) (plain_of oriented_meaning ts spot lights.oriented)) (plain_of sun_meaning ts spot lights.sun)
+    plus (plus (plain_of omni_meaning ts spot lights.omni) (plain_of oriented_meaning ts spot lights.oriented))
+        (plain_of sun_meaning ts spot lights.sun)

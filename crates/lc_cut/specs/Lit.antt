@@ -22,7 +22,8 @@ channel_bound rule.One est top = top
 channel_bound rule.Two est top = max est (top - est)
 
 abbrev pub node_bound : Rule → Rgb → Rgb → Rgb
-node_bound r est top = record { r = channel_bound r est.r top.r; g = channel_bound r est.g top.g; b = channel_bound r est.b top.b }
+node_bound r est top =
+    record { r = channel_bound r est.r top.r; g = channel_bound r est.g top.g; b = channel_bound r est.b top.b }
 
 module _ {L C : Type 0} where
   -- the most that the lights below a node can give: the top of the node's clump
@@ -50,22 +51,26 @@ module _ {L C : Type 0} where
 
   abbrev pub lit : Meaning L C → List Tri → Spot → Rule → Node L → LitTree
   lit m ts spot r (leaf n l) = lit_leaf (est_of m ts spot (leaf n l))
-  lit m ts spot r (fork n l a b) = lit_fork (light_at m ts spot r (fork n l a b)) (lit m ts spot r a) (lit m ts spot r b)
+  lit m ts spot r (fork n l a b) =
+      lit_fork (light_at m ts spot r (fork n l a b)) (lit m ts spot r a) (lit m ts spot r b)
 
   abbrev pub lit_root : Meaning L C → List Tri → Spot → Rule → Option (Node L) → Option LitTree
   lit_root m ts spot r None = None
   lit_root m ts spot r (Some t) = Some (lit m ts spot r t)
 
-  -- neither the estimate of a node nor the sum of the contributions of the lights below it is above the node's top, and they
-  -- differ by at most its bound
+  -- neither the estimate of a node nor the sum of the contributions of the lights below it is above the node's top,
+  -- and they differ by at most its bound
   pub record IsBoundedNode (m : Meaning L C) (ts : List Tri) (spot : Spot) (r : Rule) (t : Node L) : Type 0 where
     pub est : IsAtMost (top_of m spot r t) (light_at m ts spot r t).est
     pub sum : IsAtMost (top_of m spot r t) (plain_of m ts spot (members t))
     pub red : apart (plain_of m ts spot (members t)).r (light_at m ts spot r t).est.r ≤ (light_at m ts spot r t).bound.r
-    pub green : apart (plain_of m ts spot (members t)).g (light_at m ts spot r t).est.g ≤ (light_at m ts spot r t).bound.g
-    pub blue : apart (plain_of m ts spot (members t)).b (light_at m ts spot r t).est.b ≤ (light_at m ts spot r t).bound.b
+    pub green : apart (plain_of m ts spot (members t)).g (light_at m ts spot r t).est.g
+        ≤ (light_at m ts spot r t).bound.g
+    pub blue : apart (plain_of m ts spot (members t)).b (light_at m ts spot r t).est.b
+        ≤ (light_at m ts spot r t).bound.b
 
   -- the factor of the representative of the node of a number
-  pub record IsFactor (m : Meaning L C) (ts : List Tri) (spot : Spot) (root : Option (Node L)) (p : ℕ) (factor : Rgb) : Type 0 where
+  pub record IsFactor (m : Meaning L C) (ts : List Tri) (spot : Spot) (root : Option (Node L)) (p : ℕ)
+      (factor : Rgb) : Type 0 where
     pub is : IsSomeAnd (node_of root p) (λ t. factor ≡ factor_of m ts spot (leader t))
     pub within : IsRgbWithin (20_000 * 65_536 * 10 ^ 13) factor

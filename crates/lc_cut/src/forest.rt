@@ -19,7 +19,8 @@ use std::alloc::Global;
 use std::marker::Model;
 use std::sync::ledger::Ledger;
 
-/// The lights of a scene, at most 65,536, each kind in a tree of its own, in which each light stands in exactly one leaf.
+/// The lights of a scene, at most 65,536, each kind in a tree of its own, in which each light stands in exactly one
+/// leaf.
 #[derive(Drop)]
 pub struct Forest {
     pub omni: Tree<OmniKind>,
@@ -40,8 +41,8 @@ impl Model for Forest {
 }
 
 impl Forest {
-    /// The trees of lists of lights by halving, with the words of streams 0, 1 and 2 of the generator of `rand_pcg`. Each
-    /// light stands in exactly one leaf of the tree of its kind.
+    /// The trees of lists of lights by halving, with the words of streams 0, 1 and 2 of the generator of `rand_pcg`.
+    /// Each light stands in exactly one leaf of the tree of its kind.
     pub fn build(alloc: Global, lights: &Lights, seed: u64) -> Result<Forest, Memory>
         requires { AreLights lights.now }
         ensures value { IfOk result (λ forest. forest ≡ forest_of seed lights.now) }
@@ -74,8 +75,8 @@ pub struct Ask {
 pub type Bench = lc_rated::Bench<Rgb>;
 
 /// The light at a spot among the triangles of a scene, by the best-first cut through the three trees: the answer of
-/// the first cut whose bound is at most `permille` thousandths of its estimate in each channel, or that has the greatest
-/// size. Each root and each refinement evaluates one light, which counts one step. It takes no memory.
+/// the first cut whose bound is at most `permille` thousandths of its estimate in each channel, or that has the
+/// greatest size. Each root and each refinement evaluates one light, which counts one step. It takes no memory.
 pub fn cut<T: Triangles, L: Ledger>(
     bench: &mut Bench,
     forest: &Forest,

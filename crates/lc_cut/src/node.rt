@@ -81,7 +81,8 @@ fn found<K: Kind>(tree: &Tree<K>, node: u32, spot: &Spot, rule: Rule, factor: Rg
     requires node { node < count_of tree.now.root }
     requires factor { IsRgbWithin (20_000 * 65_536 * 10 ^ 13) factor }
     ensures node { result.node ≡ node }
-    ensures light { IsSomeAnd (node_of tree.now.root node) (λ t. result.light ≡ light_by K.meaning spot.now rule factor t) }
+    ensures light { IsSomeAnd (node_of tree.now.root node) (λ t. result.light
+        ≡ light_by K.meaning spot.now rule factor t) }
     ensures kept { result.kept ≡ factor }
 {
     let est = estimate(tree, node, factor);
@@ -111,8 +112,8 @@ fn factor<K: Kind, T: Triangles, L: Ledger>(
     eval::<K, T, L>(spot, &leading(tree, node), scene, steps)
 }
 
-/// The factors of the children of a node that has this factor. That of the child with the node's representative is taken
-/// over, and the representative of the other is evaluated, which counts one step.
+/// The factors of the children of a node that has this factor. That of the child with the node's representative is
+/// taken over, and the representative of the other is evaluated, which counts one step.
 fn factors<K: Kind, T: Triangles, L: Ledger>(
     tree: &Tree<K>,
     node: u32,
@@ -147,7 +148,8 @@ pub(crate) fn root<K: Kind, T: Triangles, L: Ledger>(
     steps: &mut Steps<L>,
 ) -> Option<Found<Rgb>>
     requires spot { IsSpot spot.now }
-    ensures root { IsRoot (IsFactor K.meaning (T.list scene.now) spot.now tree.now.root) (lit_root K.meaning (T.list scene.now) spot.now rule tree.now.root) result }
+    ensures root { IsRoot (IsFactor K.meaning (T.list scene.now) spot.now tree.now.root)
+        (lit_root K.meaning (T.list scene.now) spot.now rule tree.now.root) result }
     ensures steps { steps.new ≡ steps.old + (if is_some result then 1 else 0) }
 {
     if tree.count() == 0 {
@@ -170,7 +172,9 @@ pub(crate) fn split<K: Kind, T: Triangles, L: Ledger>(
     requires spot { IsSpot spot.now }
     requires node { node < count_of tree.now.root }
     requires kept { IsFactor K.meaning (T.list scene.now) spot.now tree.now.root node kept }
-    ensures split { IsSomeAnd (node_of tree.now.root node) (λ t. IsSplit (IsFactor K.meaning (T.list scene.now) spot.now tree.now.root) node (lit K.meaning (T.list scene.now) spot.now rule t) result) }
+    ensures split { IsSomeAnd (node_of tree.now.root node)
+        (λ t. IsSplit (IsFactor K.meaning (T.list scene.now) spot.now tree.now.root) node
+        (lit K.meaning (T.list scene.now) spot.now rule t) result) }
     ensures steps { steps.new ≡ steps.old + (if is_some result then 1 else 0) }
 {
     let (left, right) = tree.kids(node)?;

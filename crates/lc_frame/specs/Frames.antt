@@ -88,4 +88,5 @@ largest_of (a ∷ later) = max (max a.bound.r (max a.bound.g a.bound.b)) (larges
 
 -- how many samples there are, the sum of the sizes of their cuts, and their greatest bound
 abbrev pub summary_of : List Answer → Summary
-summary_of answers = record { samples = length answers; sizes = sum_by (λ (a : Answer). a.size) answers; largest = largest_of answers }
+summary_of answers =
+    record { samples = length answers; sizes = sum_by (λ (a : Answer). a.size) answers; largest = largest_of answers }

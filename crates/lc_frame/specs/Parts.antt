@@ -36,11 +36,13 @@ row_lights job scene row = map (map (light_of scene)) (row_rays job.camera row)
 
 -- the sums in each channel
 abbrev pub sums_of : List Rgb → Rgb
-sums_of cs = record { r = sum_by (λ (c : Rgb). c.r) cs; g = sum_by (λ (c : Rgb). c.g) cs; b = sum_by (λ (c : Rgb). c.b) cs }
+sums_of cs =
+    record { r = sum_by (λ (c : Rgb). c.r) cs; g = sum_by (λ (c : Rgb). c.g) cs; b = sum_by (λ (c : Rgb). c.b) cs }
 
 -- the bytes of a pixel by the sums over so many samples
 abbrev pub bytes_of_sums : ℕ → ℕ → Rgb → List ℕ
-bytes_of_sums white count sums = byte_of (sums.r / count) white ∷ byte_of (sums.g / count) white ∷ byte_of (sums.b / count) white ∷ []
+bytes_of_sums white count sums =
+    byte_of (sums.r / count) white ∷ byte_of (sums.g / count) white ∷ byte_of (sums.b / count) white ∷ []
 
 -- a summary with these samples more
 abbrev pub with_more : List Answer → Summary → Summary

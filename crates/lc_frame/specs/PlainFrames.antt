@@ -10,8 +10,8 @@ use Rattle.lc_sample.specs.Scenes.{SceneParts}
 use Rattle.lc_tone.specs.Picture.{picture, pixel_bytes}
 use Rattle.lc_tone.specs.Tone as tone
 
--- the sums over all lights at the samples of a picture: its rows from the top, of each its pixels from the left, of each
--- its samples
+-- the sums over all lights at the samples of a picture: its rows from the top, of each its pixels from the left, of
+-- each its samples
 unfoldable pub plain_lights : Job → SceneParts → List (List (List Rgb))
 plain_lights job scene = map (map (map (light_of scene))) (picture_rays job.camera)
 
@@ -30,4 +30,5 @@ plain_put white row = put Picture (plain_bytes white row) ∷ []
 -- the begin and the puts of the picture, in their order: its header, and then each row of pixels
 unfoldable pub plain_calls : Job → List (List (List Rgb)) → List Call
 plain_calls job rows =
-    begin Picture job.picture ∷ put Picture (tone.header_bytes job.camera.width job.camera.height) ∷ flat_map (plain_put job.white) rows
+    begin Picture job.picture ∷ put Picture (tone.header_bytes job.camera.width job.camera.height) ∷ flat_map
+        (plain_put job.white) rows

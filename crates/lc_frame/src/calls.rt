@@ -22,7 +22,8 @@ fn stop_at(slot: Slot, stop: PutStop) -> FrameStop
 pub fn begin<D: Desk>(desk: &mut D, slot: Slot, name: &str) -> Result<(), FrameStop>
     ensures made { OnOk result (Made (call.begin slot name.now ∷ []) (D.state desk.old) (D.state desk.new)) }
     ensures open { OnOk result (CanPut (D.state desk.new).slots slot) }
-    ensures broke { IfErr result (λ stop. Broke stop (call.begin slot name.now ∷ []) (D.state desk.old) (D.state desk.new)) }
+    ensures broke { IfErr result (λ stop. Broke stop (call.begin slot name.now ∷ []) (D.state desk.old)
+        (D.state desk.new)) }
 {
     match desk.begin(slot, name) {
         Ok(()) => Ok(()),
@@ -34,7 +35,8 @@ pub fn begin<D: Desk>(desk: &mut D, slot: Slot, name: &str) -> Result<(), FrameS
 pub fn put<D: Desk>(desk: &mut D, slot: Slot, piece: &[u8]) -> Result<(), FrameStop>
     requires { CanPut (D.state desk.old).slots slot }
     ensures made { OnOk result (Made (call.put slot piece.now ∷ []) (D.state desk.old) (D.state desk.new)) }
-    ensures broke { IfErr result (λ stop. Broke stop (call.put slot piece.now ∷ []) (D.state desk.old) (D.state desk.new)) }
+    ensures broke { IfErr result (λ stop. Broke stop (call.put slot piece.now ∷ []) (D.state desk.old)
+        (D.state desk.new)) }
 {
     match desk.put(slot, piece) {
         Ok(()) => Ok(()),

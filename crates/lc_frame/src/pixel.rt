@@ -53,8 +53,10 @@ fn render_samples<D: Desk, L: Ledger>(
     requires begun { IsTrue (D.state desk.old).slots.bounds.begun }
     requires samples { summary.old.samples + 256 ≤ 2 ^ 32 }
     requires sizes { summary.old.sizes ≤ 65536 * summary.old.samples }
-    ensures made { OnOk result (Made (lines_of (pixel_answers job.now scene.now row col)) (D.state desk.old) (D.state desk.new)) }
-    ensures broke { IfErr result (λ stop. Broke stop (lines_of (pixel_answers job.now scene.now row col)) (D.state desk.old) (D.state desk.new)) }
+    ensures made { OnOk result (Made (lines_of (pixel_answers job.now scene.now row col)) (D.state desk.old)
+        (D.state desk.new)) }
+    ensures broke { IfErr result (λ stop. Broke stop (lines_of (pixel_answers job.now scene.now row col))
+        (D.state desk.old) (D.state desk.new)) }
     ensures sums { IfOk result (λ sums. sums ≡ sums_of (estimates (pixel_answers job.now scene.now row col))) }
     ensures within { IfOk result (IsRgbWithin (2 ^ 126)) }
     ensures summary { OnOk result (summary.new ≡ with_more (pixel_answers job.now scene.now row col) summary.old) }
@@ -126,9 +128,12 @@ pub fn render_pixel<D: Desk, L: Ledger>(
     requires begun { IsTrue (D.state desk.old).slots.bounds.begun }
     requires samples { summary.old.samples + 256 ≤ 2 ^ 32 }
     requires sizes { summary.old.sizes ≤ 65536 * summary.old.samples }
-    ensures made { OnOk result (Made (lines_of (pixel_answers job.now scene.now row col)) (D.state desk.old) (D.state desk.new)) }
-    ensures broke { IfErr result (λ stop. Broke stop (lines_of (pixel_answers job.now scene.now row col)) (D.state desk.old) (D.state desk.new)) }
-    ensures bytes { OnOk result (room.new.row.items ≡ room.old.row.items ++ pixel_bytes job.now.white (estimates (pixel_answers job.now scene.now row col))) }
+    ensures made { OnOk result (Made (lines_of (pixel_answers job.now scene.now row col)) (D.state desk.old)
+        (D.state desk.new)) }
+    ensures broke { IfErr result (λ stop. Broke stop (lines_of (pixel_answers job.now scene.now row col))
+        (D.state desk.old) (D.state desk.new)) }
+    ensures bytes { OnOk result (room.new.row.items
+        ≡ room.old.row.items ++ pixel_bytes job.now.white (estimates (pixel_answers job.now scene.now row col))) }
     ensures len { OnOk result (vec_len room.new.row ≡ vec_len room.old.row + 3) }
     ensures space { OnOk result (vec_capacity room.old.row ≤ vec_capacity room.new.row) }
     ensures bench { OnOk result (room.new.bench ≡ room.old.bench) }

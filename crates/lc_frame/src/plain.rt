@@ -60,8 +60,10 @@ fn plain_all<D: Desk>(
     requires job { IsJob job.now }
     requires space { 3 * job.now.camera.width ≤ vec_capacity bytes.old }
     requires begun { IsTrue (D.state desk.old).slots.picture.begun }
-    ensures made { OnOk result (Made (flat_map (plain_put job.now.white) (plain_lights job.now scene.now)) (D.state desk.old) (D.state desk.new)) }
-    ensures broke { IfErr result (λ stop. Broke stop (flat_map (plain_put job.now.white) (plain_lights job.now scene.now)) (D.state desk.old) (D.state desk.new)) }
+    ensures made { OnOk result (Made (flat_map (plain_put job.now.white) (plain_lights job.now scene.now))
+        (D.state desk.old) (D.state desk.new)) }
+    ensures broke { IfErr result (λ stop. Broke stop
+        (flat_map (plain_put job.now.white) (plain_lights job.now scene.now)) (D.state desk.old) (D.state desk.new)) }
 {
     for row in 0..job.camera.height {
         plain_row(scene, job, row, bytes);
@@ -70,8 +72,8 @@ fn plain_all<D: Desk>(
     Ok(())
 }
 
-/// Writes the picture of a job by the sum over all lights at each sample, each light with its own visibility: the picture
-/// is begun with its header, and its rows of pixels are put one by one. All memory is taken before the begin.
+/// Writes the picture of a job by the sum over all lights at each sample, each light with its own visibility: the
+/// picture is begun with its header, and its rows of pixels are put one by one. All memory is taken before the begin.
 pub fn plain_rows<D: Desk>(
     alloc: Global,
     scene: &Scene,
@@ -81,10 +83,13 @@ pub fn plain_rows<D: Desk>(
     requires { IsJob job.now }
 
     // Exactly these begins and puts are made, in this order.
-    ensures made { OnOk result (Made (plain_calls job.now (plain_lights job.now scene.now)) (D.state desk.old) (D.state desk.new)) }
+    ensures made { OnOk result (Made (plain_calls job.now (plain_lights job.now scene.now)) (D.state desk.old)
+        (D.state desk.new)) }
 
-    // After a stop they were made up to one that was refused, whose count rose; or there was no memory before the first.
-    ensures stopped { IfErr result (λ stop. StoppedIn stop (plain_calls job.now (plain_lights job.now scene.now)) (D.state desk.old) (D.state desk.new)) }
+    // After a stop they were made up to one that was refused, whose count rose; or there was no memory before the
+    // first.
+    ensures stopped { IfErr result (λ stop. StoppedIn stop (plain_calls job.now (plain_lights job.now scene.now))
+        (D.state desk.old) (D.state desk.new)) }
 {
     let head = picture_head(alloc, job)?;
     let mut bytes = row_room(alloc, job)?;

@@ -28,9 +28,11 @@ pub(crate) fn start<D: Desk>(
     name: &str,
     header: &[u8],
 ) -> Result<(), FrameStop>
-    ensures made { OnOk result (Made (call.begin slot name.now ∷ call.put slot header.now ∷ []) (D.state desk.old) (D.state desk.new)) }
+    ensures made { OnOk result (Made (call.begin slot name.now ∷ call.put slot header.now ∷ []) (D.state desk.old)
+        (D.state desk.new)) }
     ensures open { OnOk result (CanPut (D.state desk.new).slots slot) }
-    ensures broke { IfErr result (λ stop. Broke stop (call.begin slot name.now ∷ call.put slot header.now ∷ []) (D.state desk.old) (D.state desk.new)) }
+    ensures broke { IfErr result (λ stop. Broke stop (call.begin slot name.now ∷ call.put slot header.now ∷ [])
+        (D.state desk.old) (D.state desk.new)) }
 {
     begin(desk, slot, name)?;
     put(desk, slot, header)
@@ -72,8 +74,10 @@ fn render_all<D: Desk, L: Ledger>(
     requires space { 3 * job.now.camera.width ≤ vec_capacity room.old.row }
     requires picture { IsTrue (D.state desk.old).slots.picture.begun }
     requires bounds { IsTrue (D.state desk.old).slots.bounds.begun }
-    ensures made { OnOk result (Made (flat_map (row_calls job.now.white) (answers_of job.now scene.now)) (D.state desk.old) (D.state desk.new)) }
-    ensures broke { IfErr result (λ stop. Broke stop (flat_map (row_calls job.now.white) (answers_of job.now scene.now)) (D.state desk.old) (D.state desk.new)) }
+    ensures made { OnOk result (Made (flat_map (row_calls job.now.white) (answers_of job.now scene.now))
+        (D.state desk.old) (D.state desk.new)) }
+    ensures broke { IfErr result (λ stop. Broke stop
+        (flat_map (row_calls job.now.white) (answers_of job.now scene.now)) (D.state desk.old) (D.state desk.new)) }
     ensures summary { IfOk result (λ summary. summary ≡ summary_of (samples (answers_of job.now scene.now))) }
     ensures steps { OnOk result (steps.new ≡ steps.old + evals_of (samples (answers_of job.now scene.now))) }
 {
@@ -84,9 +88,10 @@ fn render_all<D: Desk, L: Ledger>(
     Ok(summary)
 }
 
-/// Writes the picture and the record of a job, by the answer at each sample of the picture: the picture is begun with its
-/// header and then the record with its header, and for each row the lines of its samples are put one by one, and then its
-/// pixels. All memory is taken before the first begin. Each representative that is evaluated counts one step.
+/// Writes the picture and the record of a job, by the answer at each sample of the picture: the picture is begun with
+/// its header and then the record with its header, and for each row the lines of its samples are put one by one, and
+/// then its pixels. All memory is taken before the first begin. Each representative that is evaluated counts one
+/// step.
 pub fn render_rows<D: Desk, L: Ledger>(
     alloc: Global,
     scene: &Scene,
@@ -97,12 +102,15 @@ pub fn render_rows<D: Desk, L: Ledger>(
     requires { IsJob job.now }
 
     // Exactly these begins and puts are made, in this order.
-    ensures made { OnOk result (Made (render_calls job.now (answers_of job.now scene.now)) (D.state desk.old) (D.state desk.new)) }
+    ensures made { OnOk result (Made (render_calls job.now (answers_of job.now scene.now)) (D.state desk.old)
+        (D.state desk.new)) }
     ensures summary { IfOk result (λ summary. summary ≡ summary_of (samples (answers_of job.now scene.now))) }
     ensures steps { OnOk result (steps.new ≡ steps.old + evals_of (samples (answers_of job.now scene.now))) }
 
-    // After a stop they were made up to one that was refused, whose count rose; or there was no memory before the first.
-    ensures stopped { IfErr result (λ stop. StoppedIn stop (render_calls job.now (answers_of job.now scene.now)) (D.state desk.old) (D.state desk.new)) }
+    // After a stop they were made up to one that was refused, whose count rose; or there was no memory before the
+    // first.
+    ensures stopped { IfErr result (λ stop. StoppedIn stop (render_calls job.now (answers_of job.now scene.now))
+        (D.state desk.old) (D.state desk.new)) }
 {
     let mut room = Room::new(alloc, job)?;
     open(job, &room, desk)?;

@@ -57,7 +57,8 @@ impl Room {
     /// The memory for a render of the job.
     pub fn new(alloc: Global, job: &Job) -> Result<Room, Memory>
         requires { IsJob job.now }
-        ensures picture { IfOk result (λ room. room.picture ≡ picture_header job.now.camera.width job.now.camera.height) }
+        ensures picture { IfOk result (λ room. room.picture
+            ≡ picture_header job.now.camera.width job.now.camera.height) }
         ensures record { IfOk result (λ room. room.record ≡ record_header (header_of job.now)) }
         ensures row { IfOk result (λ room. room.row.items ≡ []) }
         ensures space { IfOk result (λ room. 3 * job.now.camera.width ≤ vec_capacity room.row) }

@@ -35,8 +35,10 @@ fn render_pixels<D: Desk, L: Ledger>(
     requires bounds { IsTrue (D.state desk.old).slots.bounds.begun }
     requires samples { summary.old.samples + 2 ^ 20 ≤ 2 ^ 32 }
     requires sizes { summary.old.sizes ≤ 65536 * summary.old.samples }
-    ensures made { OnOk result (Made (flat_map lines_of (row_answers job.now scene.now row)) (D.state desk.old) (D.state desk.new)) }
-    ensures broke { IfErr result (λ stop. Broke stop (flat_map lines_of (row_answers job.now scene.now row)) (D.state desk.old) (D.state desk.new)) }
+    ensures made { OnOk result (Made (flat_map lines_of (row_answers job.now scene.now row)) (D.state desk.old)
+        (D.state desk.new)) }
+    ensures broke { IfErr result (λ stop. Broke stop (flat_map lines_of (row_answers job.now scene.now row))
+        (D.state desk.old) (D.state desk.new)) }
     ensures bytes { OnOk result (room.new.row.items ≡ row_bytes job.now.white (row_answers job.now scene.now row)) }
     ensures space { OnOk result (vec_capacity room.old.row ≤ vec_capacity room.new.row) }
     ensures bench { OnOk result (room.new.bench ≡ room.old.bench) }
@@ -70,8 +72,10 @@ pub fn render_row<D: Desk, L: Ledger>(
     requires bounds { IsTrue (D.state desk.old).slots.bounds.begun }
     requires samples { summary.old.samples + 2 ^ 20 ≤ 2 ^ 32 }
     requires sizes { summary.old.sizes ≤ 65536 * summary.old.samples }
-    ensures made { OnOk result (Made (row_calls job.now.white (row_answers job.now scene.now row)) (D.state desk.old) (D.state desk.new)) }
-    ensures broke { IfErr result (λ stop. Broke stop (row_calls job.now.white (row_answers job.now scene.now row)) (D.state desk.old) (D.state desk.new)) }
+    ensures made { OnOk result (Made (row_calls job.now.white (row_answers job.now scene.now row))
+        (D.state desk.old) (D.state desk.new)) }
+    ensures broke { IfErr result (λ stop. Broke stop (row_calls job.now.white (row_answers job.now scene.now row))
+        (D.state desk.old) (D.state desk.new)) }
     ensures space { OnOk result (vec_capacity room.old.row ≤ vec_capacity room.new.row) }
     ensures bench { OnOk result (room.new.bench ≡ room.old.bench) }
     ensures summary { OnOk result (summary.new ≡ with_more (flat (row_answers job.now scene.now row)) summary.old) }

@@ -3,7 +3,8 @@ ghost use Rattle.std.specs.Prelude.{◌≡◌, ◌+◌, ◌*◌, ◌≤◌, ◌<
 
 use lc_rated::Answer;
 
-/// How many samples a picture has, the sum of the sizes of their cuts, and the greatest bound of all samples in any channel.
+/// How many samples a picture has, the sum of the sizes of their cuts, and the greatest bound of all samples in any
+/// channel.
 #[derive(Clone, Copy, Debug, PartialEq, Eq)]
 pub struct Summary {
     pub samples: u64,
@@ -30,7 +31,8 @@ impl Summary {
         requires size { answer.now.size ≤ 65536 }
         ensures samples { self.new.samples ≡ self.old.samples + 1 }
         ensures sizes { self.new.sizes ≡ self.old.sizes + answer.now.size }
-        ensures largest { self.new.largest ≡ max self.old.largest (max answer.now.bound.r (max answer.now.bound.g answer.now.bound.b)) }
+        ensures largest { self.new.largest
+            ≡ max self.old.largest (max answer.now.bound.r (max answer.now.bound.g answer.now.bound.b)) }
     {
         self.samples += 1;
         self.sizes += u64::from(answer.size);

@@ -5,8 +5,8 @@ use Rattle.lc_geom.specs.declared.triangle.Tri.{Tri}
 use Rattle.lc_geom.specs.declared.weights.Weights.{Weights}
 use Rattle.lc_geom.specs.Crossing.{volume}
 
--- by the volume between the segment and the side opposite to the corner: the point of crossing is the mean of the corners by
--- these
+-- by the volume between the segment and the side opposite to the corner: the point of crossing is the mean of the
+-- corners by these
 abbrev pub weights_of : Vec3 → Vec3 → Tri → Weights
 weights_of p q t = record {
   a = unsigned_abs (volume p q t.b t.c);

@@ -88,8 +88,8 @@ fn rest(start: i128, end: i128, u: i128, v: i128) -> i128
     end - start - u - v
 }
 
-/// The volumes between a segment, whose ends lie on these two sides of a triangle's plane, and the triangle's three sides.
-/// They add up to the difference of the two sides of the plane, so the third needs no product.
+/// The volumes between a segment, whose ends lie on these two sides of a triangle's plane, and the triangle's three
+/// sides. They add up to the difference of the two sides of the plane, so the third needs no product.
 pub(crate) fn three_volumes(p: Vec3, q: Vec3, t: &Tri, start: i128, end: i128) -> (i128, i128, i128)
     requires p { Within 50_100_000 p }
     requires q { Within 320_000_000 q }
@@ -118,7 +118,8 @@ fn passes_within(p: Vec3, q: Vec3, t: &Tri, start: i128, end: i128) -> bool
     requires end { end ≡ side t.now q }
     requires most_start { unsigned_abs start < 2 ^ 87 }
     requires most_end { unsigned_abs end < 2 ^ 87 }
-    ensures { result ≡ have_one_sign (volume p q t.now.a t.now.b) (volume p q t.now.b t.now.c) (volume p q t.now.c t.now.a) }
+    ensures { result ≡ have_one_sign (volume p q t.now.a t.now.b) (volume p q t.now.b t.now.c)
+        (volume p q t.now.c t.now.a) }
 {
     let (u, v, w) = three_volumes(p, q, t, start, end);
     have_one_sign(u, v, w)

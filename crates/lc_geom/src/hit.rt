@@ -17,8 +17,8 @@ pub struct Hit {
     pub number: u32,
 }
 
-/// The end of the segment of a ray from `e` along `d`. The components of `e` are at most 50,100,000, those of the end at most
-/// 320,000,000.
+/// The end of the segment of a ray from `e` along `d`. The components of `e` are at most 50,100,000, those of the end
+/// at most 320,000,000.
 pub fn moved(e: Vec3, d: Vec3) -> Vec3
     requires e { Within 50_100_000 e }
     requires end { Within 320_000_000 (moved e d) }

@@ -6,8 +6,8 @@ ghost use Rattle.lc_geom.specs.Hits.{blocked, moved, nearest};
 use crate::hit::Hit;
 use lc_num::Vec3;
 
-/// A list of triangles in a form that answers which of them a segment or a ray meets. The components of a segment's or a
-/// ray's beginning are at most 50,100,000, and those of its end at most 320,000,000.
+/// A list of triangles in a form that answers which of them a segment or a ray meets. The components of a segment's
+/// or a ray's beginning are at most 50,100,000, and those of its end at most 320,000,000.
 pub trait Triangles {
     ghost use Rattle.std.specs.Prelude.{List};
     ghost use Rattle.lc_geom.specs.declared.triangle.Tri.{Tri};

@@ -17,8 +17,9 @@ pub struct Weights {
     pub c: u128,
 }
 
-/// How much each corner counts where the segment from `p` to `q` crosses the triangle: the volume between the segment and
-/// the side opposite to the corner. The components of `p` are at most 50,100,000, those of `q` at most 320,000,000.
+/// How much each corner counts where the segment from `p` to `q` crosses the triangle: the volume between the segment
+/// and the side opposite to the corner. The components of `p` are at most 50,100,000, those of `q` at most
+/// 320,000,000.
 pub fn weights_of(p: Vec3, q: Vec3, t: &Tri) -> Weights
     requires p { Within 50_100_000 p }
     requires q { Within 320_000_000 q }

@@ -22,11 +22,14 @@ empty_heap n = record { entries = []; room = n }
 
 -- of the first n entries none comes before its parent: the one at p is the parent of those at 2 p + 1 and 2 p + 2
 unfoldable pub IsHeapIn : List Entry → ℕ → Type 0
-IsHeapIn es n = (p k : ℕ) (d : Entry) → 2 * p + 1 ≤ k → k ≤ 2 * p + 2 → k < n → comes_before (get_or es k d) (get_or es p d) ≡ false
+IsHeapIn es n =
+    (p k : ℕ) (d : Entry) → 2 * p + 1 ≤ k → k ≤ 2 * p + 2 → k < n → comes_before (get_or es k d) (get_or es p d) ≡ false
 
 abbrev pub IsHeap : List Entry → Type 0
 IsHeap es = IsHeapIn es (length es)
 
 -- no child of the entry at p comes before the one at c
 unfoldable pub IsFirstChild : List Entry → ℕ → ℕ → Type 0
-IsFirstChild es p c = (k : ℕ) (d : Entry) → 2 * p + 1 ≤ k → k ≤ 2 * p + 2 → k < length es → comes_before (get_or es k d) (get_or es c d) ≡ false
+IsFirstChild es p c =
+    (k : ℕ) (d : Entry) → 2 * p + 1 ≤ k → k ≤ 2 * p + 2 → k < length es
+    → comes_before (get_or es k d) (get_or es c d) ≡ false

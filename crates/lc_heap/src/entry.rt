@@ -2,8 +2,8 @@
 ghost use Rattle.std.specs.Prelude.{◌≡◌, ◌/◌, ◌^◌};
 ghost use Rattle.lc_heap.specs.Order.{comes_before};
 
-/// A node of a tree of some kind, with its key. An entry comes before another by the greater key, of one key by the lower
-/// kind, and of one kind by the lower node number.
+/// A node of a tree of some kind, with its key. An entry comes before another by the greater key, of one key by the
+/// lower kind, and of one kind by the lower node number.
 #[derive(Clone, Copy, Debug, PartialEq, Eq)]
 pub struct Entry {
     pub key: u128,

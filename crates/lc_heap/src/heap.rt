@@ -29,7 +29,8 @@ impl Model for Heap {
 
     ghost view = { λ h. record { entries = h.entries.items; room = h.room } };
 
-    ghost invariant = { λ h. IsHeap h.entries.items × (length h.entries.items ≤ h.room) × (h.room ≤ vec_capacity h.entries) };
+    ghost invariant = { λ h. IsHeap h.entries.items × (length h.entries.items ≤ h.room)
+    × (h.room ≤ vec_capacity h.entries) };
 }
 
 impl Heap {
@@ -58,13 +59,14 @@ impl Heap {
 
     /// The entry that comes before all others; none exactly where there is no entry.
     pub fn first(&self) -> Option<Entry>
-        ensures { MatchOption result (self.now.entries ≡ []) (λ e. Contains self.now.entries e × IsFirstOf self.now.entries e) }
+        ensures { MatchOption result (self.now.entries ≡ []) (λ e. Contains self.now.entries e
+            × IsFirstOf self.now.entries e) }
     {
         self.entries.first().copied()
     }
 
-    /// Adds an entry, for which there has to be room. It takes at most as many comparisons as the number of entries after
-    /// it has binary digits.
+    /// Adds an entry, for which there has to be room. It takes at most as many comparisons as the number of entries
+    /// after it has binary digits.
     pub fn put<L: Ledger>(&mut self, e: Entry, steps: &mut Steps<L>)
         requires { length self.old.entries < self.old.room }
         ensures entries { IsPermutation (e ∷ self.old.entries) self.new.entries }
@@ -76,10 +78,12 @@ impl Heap {
         rise(&mut self.entries, e, steps);
     }
 
-    /// Takes out the entry that comes before all others; none exactly where there is no entry. It takes at most twice as
-    /// many comparisons as the number of entries before it has binary digits.
+    /// Takes out the entry that comes before all others; none exactly where there is no entry. It takes at most twice
+    /// as many comparisons as the number of entries before it has binary digits.
     pub fn take<L: Ledger>(&mut self, steps: &mut Steps<L>) -> Option<Entry>
-        ensures entries { MatchOption result ((self.old.entries ≡ []) × (self.new.entries ≡ [])) (λ e. IsPermutation self.old.entries (e ∷ self.new.entries) × IsFirstOf self.old.entries e) }
+        ensures entries { MatchOption result ((self.old.entries ≡ [])
+            × (self.new.entries ≡ [])) (λ e. IsPermutation self.old.entries (e ∷ self.new.entries)
+            × IsFirstOf self.old.entries e) }
         ensures room { self.new.room ≡ self.old.room }
         ensures counted { steps.old ≤ steps.new }
         ensures steps { steps.new ≤ steps.old + 2 * bits (length self.old.entries) }
@@ -93,8 +97,8 @@ impl Heap {
         Some(first)
     }
 
-    /// Takes out the entry that comes before all others and adds one, in at most twice as many comparisons as the number
-    /// of entries has binary digits.
+    /// Takes out the entry that comes before all others and adds one, in at most twice as many comparisons as the
+    /// number of entries has binary digits.
     pub fn exchange<L: Ledger>(&mut self, e: Entry, steps: &mut Steps<L>) -> Entry
         requires { 0 < length self.old.entries }
         ensures entries { IsPermutation (e ∷ self.old.entries) (result ∷ self.new.entries) }

@@ -25,7 +25,8 @@ pub record IsItem (list : List Tri) (item : Item) : Type 0 where
 
 -- the boxes of items hold the triangles of the rows from `start` on
 pub record AreHeld (items : List Item) (rows : List Row) (start : ℕ) : Type 0 where
-  pub at : (k : ℕ) (item : Item) (row : Row) → slice_get items k ≡ Some item → slice_get rows (start + k) ≡ Some row → Holds item.bounds row.triangle
+  pub at : (k : ℕ) (item : Item) (row : Row) → slice_get items k ≡ Some item → slice_get rows (start + k) ≡ Some row
+      → Holds item.bounds row.triangle
 
 -- valid triangles with the boxes of these items, numbered
 pub record AreRows (items : List Item) (rows : List Row) : Type 0 where

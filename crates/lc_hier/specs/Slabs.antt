@@ -2,8 +2,8 @@
 use Rattle.std.specs.Prelude.{◌≡◌, ℕ, true, false, ℤ, pos, ◌-ℤ◌, ◌*ℤ◌, ◌≤ℤ◌}
 use Rattle.lc_hier.specs.declared.slab.Slab.{Slab}
 
--- the slab's low reciprocal is at most, its high one at least `whole` over the way from p to q; what is rounded only opens
--- the window
+-- the slab's low reciprocal is at most, its high one at least `whole` over the way from p to q; what is rounded only
+-- opens the window
 pub record Serves (whole : ℕ) (p q : ℤ) (slab : Slab) : Type 0 where
   pub start : slab.start ≡ p
   pub low : (slab.low *ℤ (q -ℤ p)) ≤ℤ pos whole

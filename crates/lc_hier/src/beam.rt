@@ -58,8 +58,8 @@ fn last_of(most: u32, shift: u32) -> i64
 }
 
 impl Beam {
-    /// From `p`, of which the components are at most 50,100,000, to `q`, of which they are at most 320,000,000. All that
-    /// the segment crosses matters.
+    /// From `p`, of which the components are at most 50,100,000, to `q`, of which they are at most 320,000,000. All
+    /// that the segment crosses matters.
     #[inline(always)]
     pub(crate) fn new(p: Vec3, q: Vec3) -> Beam
         requires p { Within 50_100_000 p }
@@ -85,7 +85,8 @@ impl Beam {
     /// ends before, or is deeper by then than matters.
     #[inline(always)]
     pub(crate) fn misses(&self, bounds: &Bounds) -> bool
-        ensures { IsTrue result → (t : Tri) → Holds bounds.now t → IsPassed self.now.start self.now.end self.now.most t }
+        ensures { IsTrue result → (t : Tri) → Holds bounds.now t
+            → IsPassed self.now.start self.now.end self.now.most t }
     {
         let near = self
             .x

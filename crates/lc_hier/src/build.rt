@@ -34,8 +34,10 @@ fn grow(items: &mut [Item], start: u32, depth: u32, nodes: &mut Vec<Node>) -> Re
     ensures kept { IfOk result (λ _. take (vec_len nodes.old) nodes.new.items ≡ nodes.old.items) }
     ensures more { IfOk result (λ _. vec_len nodes.old < vec_len nodes.new) }
     ensures few { IfOk result (λ _. vec_len nodes.new < vec_len nodes.old + 2 * length items.old) }
-    ensures starts { IfOk result (λ _. first_row nodes.new.items (start + length items.old) (vec_len nodes.old) ≡ start) }
-    ensures grown { IfOk result (λ bounds. (rows : List Row) → AreHeld items.new rows start → Grown nodes.new.items rows (vec_len nodes.old) start (start + length items.old) bounds) }
+    ensures starts { IfOk result (λ _. first_row nodes.new.items (start + length items.old) (vec_len nodes.old)
+        ≡ start) }
+    ensures grown { IfOk result (λ bounds. (rows : List Row) → AreHeld items.new rows start
+        → Grown nodes.new.items rows (vec_len nodes.old) start (start + length items.old) bounds) }
 {
     let at = nodes.len();
     let bounds = items[0].bounds.joined(items[items.len() - 1].bounds);
@@ -65,7 +67,8 @@ fn grow(items: &mut [Item], start: u32, depth: u32, nodes: &mut Vec<Node>) -> Re
 fn nodes_of(alloc: Global, items: &mut [Item]) -> Result<Vec<Node>, Memory>
     requires { length items.old ≤ 1_000_000 }
     ensures permutation { IfOk result (λ _. IsPermutation items.old items.new) }
-    ensures hierarchy { IfOk result (λ nodes. (rows : List Row) → AreRows items.new rows → IsHierarchy nodes.items rows) }
+    ensures hierarchy { IfOk result (λ nodes. (rows : List Row) → AreRows items.new rows
+        → IsHierarchy nodes.items rows) }
 {
     let count = items.len();
     let mut nodes = Vec::with_capacity(alloc, 2 * count + 1)?;

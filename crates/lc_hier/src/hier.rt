@@ -3,8 +3,8 @@ use crate::node::{Node, Row};
 use crate::recent::Recent;
 use std::marker::Model;
 
-/// At most 1,000,000 triangles in a hierarchy of boxes, which passes over those in boxes that a segment or a ray misses. Its
-/// answers are those of testing every triangle.
+/// At most 1,000,000 triangles in a hierarchy of boxes, which passes over those in boxes that a segment or a ray
+/// misses. Its answers are those of testing every triangle.
 #[derive(Drop)]
 pub struct Hier {
     pub(crate) nodes: Vec<Node>,

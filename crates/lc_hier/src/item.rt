@@ -21,7 +21,8 @@ pub(crate) struct Item {
 pub(crate) fn items_of(alloc: Global, list: &[Tri]) -> Result<Vec<Item>, Memory>
     requires valid { All IsTri list.now }
     requires few { length list.now ≤ 1_000_000 }
-    ensures numbers { IfOk result (λ items. map (λ item. item.number) items.items ≡ range_with_len 0 (length list.now)) }
+    ensures numbers { IfOk result (λ items. map (λ item. item.number) items.items
+        ≡ range_with_len 0 (length list.now)) }
     ensures held { IfOk result (λ items. All (IsItem list.now) items.items) }
 {
     let mut items = Vec::with_capacity(alloc, list.len())?;

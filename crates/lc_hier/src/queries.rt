@@ -30,9 +30,9 @@ fn is_blocked_by(rows: &[Row], known: u32, p: Vec3, q: Vec3, tests: &mut u64) ->
 }
 
 impl Hier {
-    /// Whether a triangle of the list blocks the segment from `p` to `q`, as `blocked` says, with a count, at most 2^63, that is
-    /// raised by one for each triangle that is tested: no triangle is tested twice. The components of `p` are at most 50,100,000, those of
-    /// `q` at most 320,000,000.
+    /// Whether a triangle of the list blocks the segment from `p` to `q`, as `blocked` says, with a count, at most
+    /// 2^63, that is raised by one for each triangle that is tested: no triangle is tested twice. The components of
+    /// `p` are at most 50,100,000, those of `q` at most 320,000,000.
     pub fn blocked_counting(&self, p: Vec3, q: Vec3, tests: &mut u64) -> bool
         requires p { Within 50_100_000 p }
         requires q { Within 320_000_000 q }

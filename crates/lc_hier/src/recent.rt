@@ -10,16 +10,18 @@ const PLACES: usize = 4_096;
 /// No row stands at this place.
 const NONE: u32 = u32::MAX;
 
-/// The places of rows whose triangles blocked a segment before, by the segment's end, or by its direction where the end is
-/// far. Neighbouring places are often in the shadow of one triangle. Whatever the cells hold, the answers are the same.
+/// The places of rows whose triangles blocked a segment before, by the segment's end, or by its direction where the
+/// end is far. Neighbouring places are often in the shadow of one triangle. Whatever the cells hold, the answers are
+/// the same.
 #[derive(Drop)]
 pub(crate) struct Recent {
     rows: Vec<Cell<u32>>,
     ghost full: { vec_len rows ≡ 4096 },
 }
 
-/// A place in the table, by 12 bits of a sum of the coordinates times numbers that look random. Corners and lamps are within
-/// 2^26, while a segment toward a sun ends farther away, each one elsewhere: these are kept by their directions.
+/// A place in the table, by 12 bits of a sum of the coordinates times numbers that look random. Corners and lamps are
+/// within 2^26, while a segment toward a sun ends farther away, each one elsewhere: these are kept by their
+/// directions.
 #[inline(always)]
 fn place(p: Vec3, q: Vec3) -> usize
     ensures { result < 4096 }

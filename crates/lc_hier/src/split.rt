@@ -7,8 +7,8 @@ use lc_num::{Vec3, greater, lesser};
 
 const BINS: usize = 16;
 
-/// From this depth on each child takes half of the items, wherever they are. So no node of 1,000,000 triangles is deeper
-/// than 68.
+/// From this depth on each child takes half of the items, wherever they are. So no node of 1,000,000 triangles is
+/// deeper than 68.
 const DEEP: u32 = 48;
 
 /// The bits that extents keep, so that areas times counts fit 64 bits.

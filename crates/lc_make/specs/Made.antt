@@ -55,7 +55,8 @@ corner_bytes x y z = codes "v " ++ place_bytes x y z ++ codes "\n"
 -- the corners of the square of side 1 from x and z on, at the height y
 unfoldable pub square_bytes : ℤ → ℤ → ℤ → List ℕ
 square_bytes x y z =
-    corner_bytes x y z ++ corner_bytes (x +ℤ pos 1) y z ++ corner_bytes (x +ℤ pos 1) y (z +ℤ pos 1) ++ corner_bytes x y (z +ℤ pos 1)
+    corner_bytes x y z ++ corner_bytes (x +ℤ pos 1) y z ++ corner_bytes (x +ℤ pos 1) y
+        (z +ℤ pos 1) ++ corner_bytes x y (z +ℤ pos 1)
 
 -- the least x of box k, from -9 to 9
 abbrev pub box_x : ℕ → ℤ
@@ -80,7 +81,8 @@ box_bytes k =
 
 -- the floor, of 80 by 80, before the boxes' material
 abbrev pub floor_bytes : List ℕ
-floor_bytes = codes "mtllib made.mtl\nusemtl floor\nv -40 0 -40\nv 40 0 -40\nv 40 0 40\nv -40 0 40\nf 1 2 3 4\nusemtl box\n"
+floor_bytes =
+    codes "mtllib made.mtl\nusemtl floor\nv -40 0 -40\nv 40 0 -40\nv 40 0 40\nv -40 0 40\nf 1 2 3 4\nusemtl box\n"
 
 -- the floor, and then the boxes
 unfoldable pub obj_bytes : ℕ → List ℕ

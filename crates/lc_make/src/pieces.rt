@@ -1,5 +1,5 @@
-// Numbers and places at the end of a text. On `Memory` the text may end in a part of what was to be appended: it is given
-// up then, so no clause speaks of it.
+// Numbers and places at the end of a text. On `Memory` the text may end in a part of what was to be appended: it is
+// given up then, so no clause speaks of it.
 ghost use Rattle.std.specs.Prelude.{◌≡◌, ◌++◌, OnOk};
 ghost use Rattle.lc_make.specs.Made.{place_bytes};
 

@@ -72,8 +72,8 @@ greatest_dot_of_boxes a b =
 unfoldable pub emit_top : Ends → ℕ → Ends → ℕ → ℕ
 emit_top normals least_n offsets least_d = cosine_at_most (greatest_dot_of_boxes normals offsets) (least_n * least_d)
 
--- no cosine from a vector of the first box to one of the second, of squared lengths of at least `least_n` and `least_d`,
--- is above `top`
+-- no cosine from a vector of the first box to one of the second, of squared lengths of at least `least_n` and
+-- `least_d`, is above `top`
 abbrev pub BoundsEmission : Ends → ℕ → Ends → ℕ → ℕ → Type 0
 BoundsEmission normals least_n offsets least_d top =
     (m d : Vec3) → IsInside normals m → IsInside offsets d → least_n ≤ square m → least_d ≤ square d → cos16 m d ≤ top

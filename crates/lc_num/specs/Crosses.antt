@@ -19,8 +19,9 @@ abbrev pub least_product : ℤ → ℤ → ℤ → ℤ → ℤ
 least_product a_lo a_hi b_lo b_hi =
     int_min (int_min (a_lo *ℤ b_lo) (a_lo *ℤ b_hi)) (int_min (a_hi *ℤ b_lo) (a_hi *ℤ b_hi))
 
--- the least square of `a * d - b * c`, each of the four from its least to its greatest: the difference lies between the
--- least of the first product minus the greatest of the second, and the greatest of the first minus the least of the second
+-- the least square of `a * d - b * c`, each of the four from its least to its greatest: the difference lies between
+-- the least of the first product minus the greatest of the second, and the greatest of the first minus the least of
+-- the second
 abbrev pub least_component : (a_lo a_hi d_lo d_hi b_lo b_hi c_lo c_hi : ℤ) → ℕ
 least_component a_lo a_hi d_lo d_hi b_lo b_hi c_lo c_hi =
     least_square
@@ -34,8 +35,8 @@ least_cross a b =
     + least_component a.lo.z a.hi.z b.lo.x b.hi.x a.lo.x a.hi.x b.lo.z b.hi.z
     + least_component a.lo.x a.hi.x b.lo.y b.hi.y a.lo.y a.hi.y b.lo.x b.hi.x
 
--- the cosine in 1/65536 that a greatest dot product and a least squared cross product give: 0 where the dot product is not
--- positive, and else the greatest k with `k^2 * (along^2 + across) <= 2^32 * along^2`
+-- the cosine in 1/65536 that a greatest dot product and a least squared cross product give: 0 where the dot product
+-- is not positive, and else the greatest k with `k^2 * (along^2 + across) <= 2^32 * along^2`
 abbrev pub cosine_beside : ℤ → ℕ → ℕ
 cosine_beside along across = cosine_at_most along (unsigned_abs along * unsigned_abs along + across)
 
@@ -47,4 +48,5 @@ cos_top2 n box least =
 -- the lesser of `emit_top` and of the cosine that the least cross product gives
 unfoldable pub emit_top2 : Ends → ℕ → Ends → ℕ → ℕ
 emit_top2 normals least_n offsets least_d =
-    min (emit_top normals least_n offsets least_d) (cosine_beside (greatest_dot_of_boxes normals offsets) (least_cross normals offsets))
+    min (emit_top normals least_n offsets least_d)
+        (cosine_beside (greatest_dot_of_boxes normals offsets) (least_cross normals offsets))

@@ -117,12 +117,12 @@ pub(crate) fn greatest_dot_of_boxes(a: Span3, b: Span3) -> i64
         + greatest_product(a.lo.z, a.hi.z, b.lo.z, b.hi.z)
 }
 
-/// A bound of `cos16(m, d)` in 1/65536 for each normal `m` of a box whose squared length is at least `least_n`, and each
-/// offset `d` of another whose squared length is at least `least_d`. With N the sum over the axes of the greatest of the
-/// four products of an end of normals and an end of offsets, it is 0 where N is not positive, else 65536 where a least is
-/// 0, else the greatest k up to 65536 with `k^2 * least_n * least_d <= 2^32 * N^2`. The components of normals are at most
-/// 16384 and those of offsets at most 100,100,000, and each least is at most the greatest squared length that these
-/// allow.
+/// A bound of `cos16(m, d)` in 1/65536 for each normal `m` of a box whose squared length is at least `least_n`, and
+/// each offset `d` of another whose squared length is at least `least_d`. With N the sum over the axes of the
+/// greatest of the four products of an end of normals and an end of offsets, it is 0 where N is not positive, else
+/// 65536 where a least is 0, else the greatest k up to 65536 with `k^2 * least_n * least_d <= 2^32 * N^2`. The
+/// components of normals are at most 16384 and those of offsets at most 100,100,000, and each least is at most the
+/// greatest squared length that these allow.
 pub fn emit_top(normals: Span3, least_n: u128, offsets: Span3, least_d: u128) -> u32
     requires normals { IsBoxWithin 16384 normals }
     requires least_n { least_n ≤ 3 * 2 ^ 28 }

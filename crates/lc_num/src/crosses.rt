@@ -136,10 +136,10 @@ fn lesser_cosine(along: i64, squares: u128, across: u128) -> u32
     cosine_at_most(along, squares.max(own * own + across))
 }
 
-/// A bound of `cos16(n, b)` in 1/65536 for each `b` of the box whose squared length is at least `least`: the lesser of
-/// `cos_top` and of a second one. With N the greatest dot product of `n` with a point of the box and T the least squared
-/// length that the components of `n x b` allow, each by itself, the second is 0 where N is not positive, and else the
-/// greatest k with `k^2 * (N^2 + T) <= 2^32 * N^2`. The ranges are those of `cos_top`.
+/// A bound of `cos16(n, b)` in 1/65536 for each `b` of the box whose squared length is at least `least`: the lesser
+/// of `cos_top` and of a second one. With N the greatest dot product of `n` with a point of the box and T the least
+/// squared length that the components of `n x b` allow, each by itself, the second is 0 where N is not positive, and
+/// else the greatest k with `k^2 * (N^2 + T) <= 2^32 * N^2`. The ranges are those of `cos_top`.
 pub fn cos_top2(n: Vec3, span: Span3, least: u128) -> u32
     requires n { CanBound n span }
     requires least { least ≤ 3 * (100_100_000 * 100_100_000) }
@@ -155,10 +155,10 @@ pub fn cos_top2(n: Vec3, span: Span3, least: u128) -> u32
     lesser_cosine(along, short_square(n) as u128 * least, least_cross(n, span))
 }
 
-/// A bound of `cos16(m, d)` in 1/65536 for each normal `m` of a box whose squared length is at least `least_n`, and each
-/// offset `d` of another whose squared length is at least `least_d`: the lesser of `emit_top` and of a second one, which
-/// is that of `cos_top2` with the greatest dot product and the least cross product of the two boxes. The ranges are those
-/// of `emit_top`.
+/// A bound of `cos16(m, d)` in 1/65536 for each normal `m` of a box whose squared length is at least `least_n`, and
+/// each offset `d` of another whose squared length is at least `least_d`: the lesser of `emit_top` and of a second
+/// one, which is that of `cos_top2` with the greatest dot product and the least cross product of the two boxes. The
+/// ranges are those of `emit_top`.
 pub fn emit_top2(normals: Span3, least_n: u128, offsets: Span3, least_d: u128) -> u32
     requires normals { IsBoxWithin 16384 normals }
     requires least_n { least_n ≤ 3 * 2 ^ 28 }

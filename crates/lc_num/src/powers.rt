@@ -17,8 +17,8 @@ fn with_digit(c: u64, digit: u32, power: u64) -> u64
     }
 }
 
-/// A power of a cosine in 1/65536, as a highlight has it (Phong): by squares from the first binary digit of the exponent,
-/// each product rounded down. The cosine is at most 65536.
+/// A power of a cosine in 1/65536, as a highlight has it (Phong): by squares from the first binary digit of the
+/// exponent, each product rounded down. The cosine is at most 65536.
 pub fn pow16(c: u32, e: u32) -> u32
     requires cosine { c ≤ 65536 }
     ensures value { result ≡ pow16 c e }
@@ -37,8 +37,8 @@ pub fn pow16(c: u32, e: u32) -> u32
 }
 
 /// What powers are, by the definition alone: that of twice an exponent is the square, and one more is once more the
-/// cosine, each product rounded down; a greater cosine has no smaller power. The function does nothing: it states laws by
-/// its contract.
+/// cosine, each product rounded down; a greater cosine has no smaller power. The function does nothing: it states
+/// laws by its contract.
 pub fn powers_by_squares()
     ensures none { (c : ℕ) → pow16 c 0 ≡ 65536 }
     ensures even { (c m : ℕ) → pow16 c (2 * m) ≡ pow16 c m * pow16 c m / 65536 }

@@ -5,11 +5,11 @@ ghost use Rattle.lc_num.specs.Rules.{rule_number, rule_of};
 /// The rule by which the bounds of clusters of lights are found.
 #[derive(Clone, Copy, Debug, PartialEq, Eq)]
 pub enum Rule {
-    /// A cosine is bounded by the greatest dot product over a box, and the bound of a cluster is the most that it can give
-    /// (Lightcuts 2005).
+    /// A cosine is bounded by the greatest dot product over a box, and the bound of a cluster is the most that it can
+    /// give (Lightcuts 2005).
     One,
-    /// A cosine is bounded by the least cross product over a box as well, and the bound of a cluster is the greater of its
-    /// estimate and of what the estimate leaves of the most that it can give.
+    /// A cosine is bounded by the least cross product over a box as well, and the bound of a cluster is the greater
+    /// of its estimate and of what the estimate leaves of the most that it can give.
     Two,
 }
 

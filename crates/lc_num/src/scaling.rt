@@ -56,9 +56,9 @@ fn part(l: u64, a: i64, length: u64) -> i64
     if a < 0 { -size } else { size }
 }
 
-/// The vector in the direction of `v` whose components are at most `l`: `l * v / isqrt(v.v)`, each component rounded toward
-/// zero, and the zero vector for the zero vector. As the root is rounded down, a vector of few units comes out longer than `l`.
-/// A component of `v` is at most 2^60, and `l` at most 2^28.
+/// The vector in the direction of `v` whose components are at most `l`: `l * v / isqrt(v.v)`, each component rounded
+/// toward zero, and the zero vector for the zero vector. As the root is rounded down, a vector of few units comes out
+/// longer than `l`. A component of `v` is at most 2^60, and `l` at most 2^28.
 pub fn scaled(v: Vec3, l: u64) -> Vec3
     requires v { Within (2 ^ 60) v }
     requires l { l ≤ 2 ^ 28 }

@@ -32,7 +32,8 @@ abbrev pub replaced : ℕ → List Placed → List Placed
 replaced key [] = []
 replaced key (p ∷ ps) = if key_of p == key then parts_of p.kind p.node p.tree ++ ps else p ∷ replaced key ps
 
--- the node of greatest key gives way to its children; a cut is in order, so of several the one of lowest kind and number
+-- the node of greatest key gives way to its children; a cut is in order, so of several the one of lowest kind and
+-- number
 abbrev pub refined : List Placed → List Placed
 refined cut = replaced (greatest_key cut) cut
 
@@ -71,7 +72,8 @@ is_within c permille cut = nat_le (1000 * bound_sum c cut) (permille * est_sum c
 -- a cut of the greatest size stops, and one whose bounds are within the permille of the estimates in each channel
 abbrev pub stops : ℕ → ℕ → List Placed → Bool
 stops size permille cut =
-    (length cut == size) || ((is_within red permille cut && is_within green permille cut) && is_within blue permille cut)
+    (length cut == size) ||
+        ((is_within red permille cut && is_within green permille cut) && is_within blue permille cut)
 
 -- the least_passing number below n of which the test holds, or n
 abbrev pub least_passing : ℕ → (ℕ → Bool) → ℕ
@@ -102,7 +104,8 @@ answer size permille trees = answer_of (chosen size permille (roots_of trees))
 -- the estimates of all leaves
 abbrev pub full_light : Trees → Rgb
 full_light trees =
-    record { r = full_sum red (roots_of trees); g = full_sum green (roots_of trees); b = full_sum blue (roots_of trees) }
+    record { r = full_sum red (roots_of trees); g = full_sum green (roots_of trees); b = full_sum blue
+        (roots_of trees) }
 
 -- how far two numbers are from one another
 abbrev pub apart : ℕ → ℕ → ℕ
@@ -137,7 +140,8 @@ EachNode Q [] = Unit {0}
 EachNode Q (p ∷ ps) = Q p × EachNode Q ps
 
 abbrev pub IsBefore : Placed → Placed → Type 0
-IsBefore p q = (kind_number p.kind < kind_number q.kind) ⊎ ((kind_number p.kind ≡ kind_number q.kind) × (p.node < q.node))
+IsBefore p q =
+    (kind_number p.kind < kind_number q.kind) ⊎ ((kind_number p.kind ≡ kind_number q.kind) × (p.node < q.node))
 
 -- each node stands before all that follow it, by kind and then by number
 abbrev pub IsInOrder : List Placed → Type 0

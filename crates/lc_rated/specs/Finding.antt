@@ -16,8 +16,10 @@ module _ {K : Type 0} where
   IsRoot keeps None r = r ≡ None
   IsRoot keeps (Some t) r = IsSomeAnd r (IsFound keeps 0 t)
 
-  -- what the node of number n gives way to: nothing at a lit_leaf, and else its children, beside the estimate that it had
+  -- what the node of number n gives way to: nothing at a lit_leaf, and else its children, beside the estimate that it
+  -- had
   abbrev pub IsSplit : (ℕ → K → Type 0) → ℕ → LitTree → Option (Split K) → Type 0
   IsSplit keeps n (lit_leaf est) r = r ≡ None
   IsSplit keeps n (lit_fork light left right) r =
-      IsSomeAnd r (λ s. (s.est ≡ light.est) × IsFound keeps (n + 1) left s.left × IsFound keeps (n + 2 * leaf_count left) right s.right)
+      IsSomeAnd r (λ s. (s.est ≡ light.est) × IsFound keeps (n + 1) left s.left
+          × IsFound keeps (n + 2 * leaf_count left) right s.right)

@@ -43,13 +43,15 @@ full_of c (lit_fork light left right) = full_of c left + full_of c right
 abbrev pub IsBounded : (Rgb → ℕ) → LitTree → Type 0
 IsBounded c (lit_leaf est) = Unit {0}
 IsBounded c (lit_fork light left right) =
-    (c light.est ≤ (full_of c left + full_of c right) + c light.bound) × (full_of c left + full_of c right ≤ c light.est + c light.bound) × IsBounded c left × IsBounded c right
+    (c light.est ≤ (full_of c left + full_of c right) + c light.bound)
+        × (full_of c left + full_of c right ≤ c light.est + c light.bound) × IsBounded c left × IsBounded c right
 
 -- in a channel, at every node, estimate and bound are at most `most` for each lit_leaf below
 abbrev pub IsLimited : (Rgb → ℕ) → ℕ → LitTree → Type 0
 IsLimited c most (lit_leaf est) = c est ≤ most
 IsLimited c most (lit_fork light left right) =
-    (c light.est ≤ most * (leaf_count left + leaf_count right)) × (c light.bound ≤ most * (leaf_count left + leaf_count right)) × IsLimited c most left × IsLimited c most right
+    (c light.est ≤ most * (leaf_count left + leaf_count right))
+        × (c light.bound ≤ most * (leaf_count left + leaf_count right)) × IsLimited c most left × IsLimited c most right
 
 -- the lit trees of the three kinds of light, each of them or none
 pub record Trees : Type 0 where
@@ -68,12 +70,14 @@ kind_number kind.Omni = 0
 kind_number kind.Oriented = 1
 kind_number kind.Sun = 2
 
--- the node of a preorder number: the root has 0, the left child of p has p + 1, and the right child comes after the left child's nodes
+-- the node of a preorder number: the root has 0, the left child of p has p + 1, and the right child comes after the
+-- left child's nodes
 abbrev pub node_at : LitTree → ℕ → Option LitTree
 node_at (lit_leaf est) zero = Some (lit_leaf est)
 node_at (lit_leaf est) (suc p) = None
 node_at (lit_fork light left right) zero = Some (lit_fork light left right)
-node_at (lit_fork light left right) (suc p) = if nat_lt p (node_count left) then node_at left p else node_at right (p - node_count left)
+node_at (lit_fork light left right) (suc p) =
+    if nat_lt p (node_count left) then node_at left p else node_at right (p - node_count left)
 
 abbrev pub node_of : Option LitTree → ℕ → Option LitTree
 node_of None p = None

@@ -16,8 +16,8 @@ use Rattle.lc_rated.specs.declared.slot.Slot.{Slot}
 use Rattle.lc_rated.specs.LitTrees.{Trees, light_of, kind_number}
 use Rattle.lc_rated.specs.Cuts.{Placed, EachNode, cut_at, root_of, totals_of}
 
--- the entries of the heap, for each kind and number of a node the number of its slot, what the slots keep, the sums over
--- the nodes, and how many nodes there is room for
+-- the entries of the heap, for each kind and number of a node the number of its slot, what the slots keep, the sums
+-- over the nodes, and how many nodes there is room for
 pub record NodesParts (K : Type 0) : Type 0 where
   pub entries : List Entry
   pub places : List ℕ
@@ -28,12 +28,15 @@ pub record NodesParts (K : Type 0) : Type 0 where
 -- how the logic stores them
 module _ {K : Type 0} where
   abbrev pub coded_slot : Coded K → Coded (Slot K)
-  coded_slot c = code_by (K × Rgb) (coded× c colours.the_row.coded) (λ s. (s.kept, s.bound)) (λ p. record { kept = p.0; bound = p.1 }) (λ _. refl)
+  coded_slot c =
+      code_by (K × Rgb) (coded× c colours.the_row.coded)
+          (λ s. (s.kept, s.bound)) (λ p. record { kept = p.0; bound = p.1 }) (λ _. refl)
 
   abbrev pub coded_parts : Coded K → Coded (NodesParts K)
   coded_parts c =
       code_by (List Entry × (List ℕ × (List (Slot K) × (NodeLight × ℕ))))
-      (coded× (coded_list entries.the_row.coded) (coded× (coded_list coded_ℕ) (coded× (coded_list (coded_slot c)) (coded× lights.the_row.coded coded_ℕ))))
+      (coded× (coded_list entries.the_row.coded)
+          (coded× (coded_list coded_ℕ) (coded× (coded_list (coded_slot c)) (coded× lights.the_row.coded coded_ℕ))))
       (λ n. (n.entries, (n.places, (n.slots, (n.sums, n.room)))))
       (λ p. record { entries = p.0; places = p.1.0; slots = p.1.1.0; sums = p.1.1.1.0; room = p.1.1.1.1 })
       (λ _. refl)
@@ -68,7 +71,8 @@ module _ {K : Type 0} where
   made_slot found = record { kept = found.kept; bound = found.light.bound }
 
   -- a node has a slot, which `owner` says is its own, with its bound and what is kept of it
-  pub record IsKept (keeps : LightKind → ℕ → K → Type 0) (owner : ℕ → ℕ) (places : List ℕ) (slots : List (Slot K)) (p : Placed) : Type 0 where
+  pub record IsKept (keeps : LightKind → ℕ → K → Type 0) (owner : ℕ → ℕ) (places : List ℕ) (slots : List (Slot K))
+      (p : Placed) : Type 0 where
     pub slot : ℕ
     pub held : Slot K
     pub at : slice_get places (place_of p.kind p.node) ≡ Some slot
@@ -120,7 +124,8 @@ pub record CanMove (sum old left right : Rgb) : Type 0 where
 
 module _ {K : Type 0} where
   -- the nodes after the first gave way to two: the left one takes over its slot, and the right one has the next
-  pub record IsReplaced (k : LightKind) (slot : ℕ) (light : NodeLight) (left right : Found K) (old next : NodesParts K) : Type 0 where
+  pub record IsReplaced (k : LightKind) (slot : ℕ) (light : NodeLight) (left right : Found K)
+      (old next : NodesParts K) : Type 0 where
     pub first : Entry
     pub others : List Entry
     pub leads : IsFirstOf old.entries first
@@ -128,7 +133,8 @@ module _ {K : Type 0} where
     pub taken : IsPermutation (made_entry k left.node left.light ∷ old.entries) (first ∷ others)
     pub entries : IsPermutation (made_entry k right.node right.light ∷ others) next.entries
     pub all : length old.places ≡ 393216
-    pub places : next.places ≡ slice_set (slice_set old.places (place_of k left.node) slot) (place_of k right.node) (length old.slots)
+    pub places : next.places
+        ≡ slice_set (slice_set old.places (place_of k left.node) slot) (place_of k right.node) (length old.slots)
     pub slots : next.slots ≡ slice_set old.slots slot (made_slot left) ++ made_slot right ∷ []
     pub est : IsMoved old.sums.est light.est left.light.est right.light.est next.sums.est
     pub bound : IsMoved old.sums.bound light.bound left.light.bound right.light.bound next.sums.bound

@@ -21,7 +21,8 @@ fn start<T: Lighting, L: Ledger, M: Ledger>(
     requires limited { AreLimited (T.trees lighting.now) }
     requires room { 3 ≤ nodes.old.room }
     requires begun { Holds (T.keeps lighting.now) (roots_before kind (T.trees lighting.now)) nodes.old }
-    ensures begun { Holds (T.keeps lighting.now) (roots_before kind (T.trees lighting.now) ++ root_of kind (tree_for (T.trees lighting.now) kind)) nodes.new }
+    ensures begun { Holds (T.keeps lighting.now)
+        (roots_before kind (T.trees lighting.now) ++ root_of kind (tree_for (T.trees lighting.now) kind)) nodes.new }
     ensures room { nodes.new.room ≡ nodes.old.room }
     ensures steps { steps.new ≡ steps.old + length (root_of kind (tree_for (T.trees lighting.now) kind)) }
 {

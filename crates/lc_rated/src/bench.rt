@@ -12,7 +12,8 @@ use std::alloc::Global;
 use std::marker::{Brand, Model};
 use std::sync::ledger::{Blank, Ledger};
 
-/// The working memory of cuts for whose nodes a `K` is kept, seen by contracts as the greatest size that it is made for.
+/// The working memory of cuts for whose nodes a `K` is kept, seen by contracts as the greatest size that it is made
+/// for.
 #[derive(Drop)]
 pub struct Bench<K: Copy> {
     nodes: Nodes<K>,

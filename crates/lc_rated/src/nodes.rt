@@ -44,7 +44,8 @@ impl<K: Copy> Model for Nodes<K> {
 
     ghost view = { λ n. record { entries = n.heap.entries; places = n.places.items; slots = n.slots.items; sums = n.sums; room = n.room } };
 
-    ghost invariant = { λ n. (length n.places.items ≡ 393216) × (length n.slots.items ≡ length n.heap.entries) × (n.heap.room ≡ n.room) × (n.room ≤ vec_capacity n.slots) };
+    ghost invariant = { λ n. (length n.places.items ≡ 393216) × (length n.slots.items ≡ length n.heap.entries)
+    × (n.heap.room ≡ n.room) × (n.room ≤ vec_capacity n.slots) };
 }
 
 fn plus(a: Rgb, b: Rgb) -> Rgb
@@ -145,7 +146,8 @@ impl<K: Copy> Nodes<K> {
 
     /// The node that comes before all others.
     pub fn first(&self) -> Option<Entry>
-        ensures { MatchOption result (self.now.entries ≡ []) (λ e. Contains self.now.entries e × IsFirstOf self.now.entries e) }
+        ensures { MatchOption result (self.now.entries ≡ []) (λ e. Contains self.now.entries e
+            × IsFirstOf self.now.entries e) }
     {
         self.heap.first()
     }

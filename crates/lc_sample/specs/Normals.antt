@@ -27,11 +27,13 @@ abbrev pub mixed : ℤ → ℤ → ℤ → ℤ → ℤ → ℤ → ℤ
 mixed u v w a b c = u *ℤ a +ℤ v *ℤ b +ℤ w *ℤ c
 
 abbrev pub mixed_by : Weights → ℤ → ℤ → ℤ → ℤ
-mixed_by w a b c = mixed (pos (part_of w.a (sum_of w))) (pos (part_of w.b (sum_of w))) (pos (part_of w.c (sum_of w))) a b c
+mixed_by w a b c =
+    mixed (pos (part_of w.a (sum_of w))) (pos (part_of w.b (sum_of w))) (pos (part_of w.c (sum_of w))) a b c
 
 -- the sum of the corners' normals, each times the part that its corner has
 abbrev pub blended : Weights → Triple → Vec3
-blended w n = record { x = mixed_by w n.a.x n.b.x n.c.x; y = mixed_by w n.a.y n.b.y n.c.y; z = mixed_by w n.a.z n.b.z n.c.z }
+blended w n =
+    record { x = mixed_by w n.a.x n.b.x n.c.x; y = mixed_by w n.a.y n.b.y n.c.y; z = mixed_by w n.a.z n.b.z n.c.z }
 
 -- a normal turned to the side of the surface from which it is seen, whose own normal stands in where there is none
 abbrev pub turned : Vec3 → Vec3 → Vec3

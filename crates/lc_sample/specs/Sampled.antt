@@ -31,7 +31,8 @@ abbrev pub answer_at : ℕ → ℕ → Rule → SceneParts → Option Spot → A
 answer_at size permille r scene None = no_answer
 answer_at size permille r scene (Some spot) = answer size permille (trees_of (triangles_of scene) spot r scene.forest)
 
--- the answer for a greatest size and a permille under a rule at the spot that a ray finds, and zero where it hits nothing
+-- the answer for a greatest size and a permille under a rule at the spot that a ray finds, and zero where it hits
+-- nothing
 unfoldable pub sample_of : ℕ → ℕ → Rule → SceneParts → Ray → Answer
 sample_of size permille r scene ray = answer_at size permille r scene (spot_seen scene ray)
 

@@ -33,4 +33,5 @@ triangles_of scene = map (λ s. s.tri) scene.surfaces
 
 -- the scene of a mesh, of the materials of its libraries, and of lights, whose trees take the words of a seed
 unfoldable pub scene_of : Mesh → List Material → Lights → ℕ → SceneParts
-scene_of mesh items lights seed = record { surfaces = map (surface_of mesh.names items) mesh.faces; forest = forest_of seed lights }
+scene_of mesh items lights seed =
+    record { surfaces = map (surface_of mesh.names items) mesh.faces; forest = forest_of seed lights }

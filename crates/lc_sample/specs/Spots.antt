@@ -36,7 +36,8 @@ lifted at normal = int_max (negsuc 50_099_999) (int_min (pos 50_100_000) (at +�
 
 -- a place, moved off the surface
 abbrev pub off_surface : Vec3 → Vec3 → Vec3
-off_surface place normal = record { x = lifted place.x normal.x; y = lifted place.y normal.y; z = lifted place.z normal.z }
+off_surface place normal =
+    record { x = lifted place.x normal.x; y = lifted place.y normal.y; z = lifted place.z normal.z }
 
 -- ---- the mirrored view
 

@@ -39,8 +39,8 @@ pub(crate) fn spot_seen(scene: &Scene, ray: Ray) -> Option<Spot>
     }
 }
 
-/// The light at the spot that a ray finds first, by the best-first cut through the trees of a scene's lights, and zero where
-/// the ray hits nothing. Each representative that is evaluated counts one step. It takes no memory.
+/// The light at the spot that a ray finds first, by the best-first cut through the trees of a scene's lights, and
+/// zero where the ray hits nothing. Each representative that is evaluated counts one step. It takes no memory.
 pub fn sample<L: Ledger>(
     scene: &Scene,
     bench: &mut Bench,

@@ -35,7 +35,8 @@ impl Model for Scene {
 
     ghost view = { λ s. record { surfaces = s.surfaces; forest = s.forest } };
 
-    ghost invariant = { λ s. (s.triangles ≡ map (λ x. x.tri) s.surfaces) × IsScene (record { surfaces = s.surfaces; forest = s.forest }) };
+    ghost invariant = { λ s. (s.triangles ≡ map (λ x. x.tri) s.surfaces)
+    × IsScene (record { surfaces = s.surfaces; forest = s.forest }) };
 }
 
 /// How a surface sends light back where no library says it: 0.8 of the light, and no highlight.
@@ -107,9 +108,9 @@ fn surface_of(looks: &[Reflectance], face: &Face) -> Surface
 }
 
 impl Scene {
-    /// The scene of a mesh, with the materials of its libraries, and of lights, whose trees take the words of the streams
-    /// 0, 1 and 2 of a seed. A face that names no material, or one that is in no library, has the diffuse colour 0.8 and
-    /// no highlight. On `Memory` the mesh and the lights are given up.
+    /// The scene of a mesh, with the materials of its libraries, and of lights, whose trees take the words of the
+    /// streams 0, 1 and 2 of a seed. A face that names no material, or one that is in no library, has the diffuse
+    /// colour 0.8 and no highlight. On `Memory` the mesh and the lights are given up.
     pub fn join(
         alloc: Global,
         mesh: Mesh,

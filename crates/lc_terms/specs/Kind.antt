@@ -35,8 +35,8 @@ pub record Meaning (L C : Type 0) : Type 1 where
 abbrev pub is_seen : {L C : Type 0} → Meaning L C → List Tri → Vec3 → L → Bool
 is_seen m ts x light = not (blocked x (m.target x light) ts)
 
--- the factor of a light at a spot among triangles: that of its direction and its geometric term where the light is seen,
--- and else nothing
+-- the factor of a light at a spot among triangles: that of its direction and its geometric term where the light is
+-- seen, and else nothing
 abbrev pub factor_of : {L C : Type 0} → Meaning L C → List Tri → Spot → L → Rgb
 factor_of m ts spot light =
     if is_seen m ts spot.x light then factor spot (m.toward spot.x light) (m.geometry spot.x light) else black
@@ -52,15 +52,22 @@ pub record Laws {L C : Type 0} (m : Meaning L C) : Type 0 where
   pub one_count : (l : L) → m.valid_light l → m.count (m.one l) ≡ 1
   pub one_covers : (l : L) → m.valid_light l → m.covers (m.one l) l
   pub one_total : (l : L) → m.valid_light l → m.total (m.one l) ≡ m.power l
-  pub join_valid : (a b : C) → m.valid_clump a → m.valid_clump b → m.count a + m.count b ≤ 65_536 → m.valid_clump (m.join a b)
+  pub join_valid : (a b : C) → m.valid_clump a → m.valid_clump b → m.count a + m.count b ≤ 65_536
+      → m.valid_clump (m.join a b)
   pub join_count : (a b : C) → m.valid_clump a → m.valid_clump b → m.count (m.join a b) ≡ m.count a + m.count b
-  pub join_total : (a b : C) → m.valid_clump a → m.valid_clump b → m.total (m.join a b) ≡ power_plus (m.total a) (m.total b)
-  pub join_covers : (a b : C) (l : L) → m.valid_clump a → m.valid_clump b → m.valid_light l → m.covers a l ⊎ m.covers b l → m.covers (m.join a b) l
+  pub join_total : (a b : C) → m.valid_clump a → m.valid_clump b
+      → m.total (m.join a b) ≡ power_plus (m.total a) (m.total b)
+  pub join_covers : (a b : C) (l : L) → m.valid_clump a → m.valid_clump b → m.valid_light l
+      → m.covers a l ⊎ m.covers b l → m.covers (m.join a b) l
   pub count_within : (c : C) → m.valid_clump c → m.count c ≤ 65_536
   pub total_within : (c : C) → m.valid_clump c → IsPowerWithin (10 ^ 8 * m.count c) (m.total c)
-  pub reach_within : (s : Spot) (c : C) (r : Rule) → IsSpot s → m.valid_clump c → IsRgbWithin (20_000 * 65_536 * 10 ^ 13) (m.reach s c r)
-  pub top_is : (s : Spot) (c : C) (r : Rule) → IsSpot s → m.valid_clump c → m.top s c r ≡ by_power (m.reach s c r) (m.total c)
-  -- among whatever triangles and under each rule, no light that a clump covers has a greater factor than the clump's bound
-  pub dominates : (ts : List Tri) (s : Spot) (c : C) (r : Rule) (l : L) → IsSpot s → m.valid_clump c → m.valid_light l → m.covers c l → IsAtMost (m.reach s c r) (factor_of m ts s l)
+  pub reach_within : (s : Spot) (c : C) (r : Rule) → IsSpot s → m.valid_clump c
+      → IsRgbWithin (20_000 * 65_536 * 10 ^ 13) (m.reach s c r)
+  pub top_is : (s : Spot) (c : C) (r : Rule) → IsSpot s → m.valid_clump c
+      → m.top s c r ≡ by_power (m.reach s c r) (m.total c)
+  -- among whatever triangles and under each rule, no light that a clump covers has a greater factor than the clump's
+  -- bound
+  pub dominates : (ts : List Tri) (s : Spot) (c : C) (r : Rule) (l : L) → IsSpot s → m.valid_clump c
+      → m.valid_light l → m.covers c l → IsAtMost (m.reach s c r) (factor_of m ts s l)
   -- the bound under the second rule is nowhere above that under the first
   pub sharper : (s : Spot) (c : C) → IsSpot s → m.valid_clump c → IsAtMost (m.reach s c rule.One) (m.reach s c rule.Two)

@@ -14,6 +14,8 @@ seen-below : (most c : Rgb) (seen : Bool) → IsAtMost most c → IsAtMost most 
 seen-below most c true h = h
 seen-below most c false h = black-below most
 
-pub factor-below : {L C : Type 0} (m : Meaning L C) (ts : List Tri) (spot : Spot) (light : L) (most : Rgb) → IsAtMost most (factor spot (m.toward spot.x light) (m.geometry spot.x light)) → IsAtMost most (factor_of m ts spot light)
+pub factor-below : {L C : Type 0} (m : Meaning L C) (ts : List Tri) (spot : Spot) (light : L) (most : Rgb)
+    → IsAtMost most (factor spot (m.toward spot.x light) (m.geometry spot.x light))
+    → IsAtMost most (factor_of m ts spot light)
 factor-below m ts spot light most h =
     seen-below most (factor spot (m.toward spot.x light) (m.geometry spot.x light)) (is_seen m ts spot.x light) h

@@ -60,7 +60,8 @@ fn times(geometry: u64, material: Rgb) -> Rgb
 fn unblocked<K: Kind>(spot: &Spot, light: &K::Light) -> Rgb
     requires spot { IsSpot spot.now }
     requires light { K.meaning.valid_light light.now }
-    ensures value { result ≡ factor spot.now (K.meaning.toward spot.now.x light.now) (K.meaning.geometry spot.now.x light.now) }
+    ensures value { result ≡ factor spot.now (K.meaning.toward spot.now.x light.now)
+        (K.meaning.geometry spot.now.x light.now) }
     ensures small { IsRgbWithin (20_000 * 65_536 * 10 ^ 13) result }
 {
     let material = material(spot, K::toward(spot.x, light));
@@ -70,9 +71,9 @@ fn unblocked<K: Kind>(spot: &Spot, light: &K::Light) -> Rgb
     times(K::geometry(spot.x, light), material)
 }
 
-/// The factor of a light at a spot (Lightcuts 2005: the material, geometric and visibility terms): the material term times
-/// the geometric term, with no rounding, where no triangle of the scene blocks the segment from the spot to the light's
-/// target, and else 0. Where the product is 0 no segment is tested.
+/// The factor of a light at a spot (Lightcuts 2005: the material, geometric and visibility terms): the material term
+/// times the geometric term, with no rounding, where no triangle of the scene blocks the segment from the spot to the
+/// light's target, and else 0. Where the product is 0 no segment is tested.
 pub fn factor_of<K: Kind, T: Triangles>(spot: &Spot, light: &K::Light, scene: &T) -> Rgb
     requires spot { IsSpot spot.now }
     requires light { K.meaning.valid_light light.now }

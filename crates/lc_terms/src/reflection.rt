@@ -12,8 +12,8 @@ use lc_num::{Colour, Rgb, Vec3, cos16, pow16};
 
 const NONE: Colour = Colour { r: 0, g: 0, b: 0 };
 
-/// The highlight of a spot for light from `b`, in 1/65536. No specular colour makes use of it where it is black, and then
-/// it is not worked out.
+/// The highlight of a spot for light from `b`, in 1/65536. No specular colour makes use of it where it is black, and
+/// then it is not worked out.
 fn highlight(spot: &Spot, b: Vec3) -> u32
     requires spot { IsSpot spot.now }
     requires b { Within 100_100_000 b }
@@ -54,10 +54,10 @@ fn reflected(spot: &Spot, cosine: u32, highlight: u32) -> Rgb
     }
 }
 
-/// The material term of a spot for light from `b`, in 1/10000 of 1/65536 (Lightcuts 2005, the Phong model): the diffuse
-/// colour times the cosine of the angle between the normal and `b`, and the specular colour times a power of the cosine of
-/// the angle between the mirrored view and `b`. It is black where the first cosine is 0. The components of `b` are at most
-/// 100,100,000.
+/// The material term of a spot for light from `b`, in 1/10000 of 1/65536 (Lightcuts 2005, the Phong model): the
+/// diffuse colour times the cosine of the angle between the normal and `b`, and the specular colour times a power of
+/// the cosine of the angle between the mirrored view and `b`. It is black where the first cosine is 0. The components
+/// of `b` are at most 100,100,000.
 pub fn material(spot: &Spot, b: Vec3) -> Rgb
     requires spot { IsSpot spot.now }
     requires b { Within 100_100_000 b }

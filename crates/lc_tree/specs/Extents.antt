@@ -52,8 +52,10 @@ module _ {L : Type 0} where
     pub y : IsExtent (coordinates Y es) v.y
     pub z : IsExtent (coordinates Z es) v.z
 
-  -- the axis on which lights extend the longest: x where some two of them are as far apart on it as any two are on y and as
-  -- any two are on z, else y where that holds of y and z, else z
+  -- the axis on which lights extend the longest: x where some two of them are as far apart on it as any two are on y
+  -- and as any two are on z, else y where that holds of y and z, else z
   unfoldable pub longest_axis : List (Numbered L) → Axis
   longest_axis es =
-      if extend_as_far (coordinates X es) (coordinates Y es) && extend_as_far (coordinates X es) (coordinates Z es) then X else if extend_as_far (coordinates Y es) (coordinates Z es) then Y else Z
+      if extend_as_far (coordinates X es) (coordinates Y es) && extend_as_far (coordinates X es) (coordinates Z es)
+      then X
+      else if extend_as_far (coordinates Y es) (coordinates Z es) then Y else Z

@@ -19,7 +19,8 @@ module _ {L C : Type 0} where
     pub place : e.place ≡ m.place e.light
 
   -- rows grew by those of the tree over some lights
-  pub record Grown (m : Meaning L C) (word : ℕ → ℕ) (lights : List L) (es : List (Numbered L)) (old new : List (Row C)) (row : Row C) : Type 0 where
+  pub record Grown (m : Meaning L C) (word : ℕ → ℕ) (lights : List L) (es : List (Numbered L))
+      (old new : List (Row C)) (row : Row C) : Type 0 where
     pub tree : Node L
     pub rows : new ≡ old ++ rows_of m.one m.join tree
     pub root : row ≡ row_of m.one m.join tree

@@ -4,7 +4,8 @@ use Rattle.std.proofs.lemmas.List.{append_assoc, append-nil}
 use Rattle.std.proofs.Common.{ap, sym, ◌∙◌, inl, inr}
 use Rattle.std.specs.Coded.{Coded, code_by, coded×, coded⊎, coded_ℕ, coded_list}
 
--- a leaf has its light's number and the light; an inner node has the number of its representative, the representative and two children
+-- a leaf has its light's number and the light; an inner node has the number of its representative, the representative
+-- and two children
 pub data Node (L : Type 0) : Type 0 where
   leaf : ℕ → L → Node L
   fork : ℕ → L → Node L → Node L → Node L
@@ -41,7 +42,8 @@ module _ {L : Type 0} where
   numbers (leaf n l) = n ∷ []
   numbers (fork n l a b) = numbers a ++ numbers b
 
-  -- the node of a number: the root has number 0, its left child 1, and its right child twice the number of leaves of the left
+  -- the node of a number: the root has number 0, its left child 1, and its right child twice the number of leaves of
+  -- the left
   abbrev pub node_at : Node L → ℕ → Option (Node L)
   node_at (leaf n l) zero = Some (leaf n l)
   node_at (leaf n l) (suc p) = None
@@ -108,9 +110,12 @@ module _ {L : Type 0} where
   kept_of p = record { lights = p.0; root = first (parse p.1) }
 
   pub kept-tokens : (v : Kept L) → kept_of (kept_tokens v) ≡ v
-  kept-tokens v = ap (λ (r : Option (Node L)). let k : Kept L = record { lights = v.lights; root = r } in k) (first_root v.root)
+  kept-tokens v =
+      ap (λ (r : Option (Node L)). let k : Kept L = record { lights = v.lights; root = r } in k) (first_root v.root)
 
   -- how the logic stores what a tree keeps
   abbrev pub coded_kept : Coded L → Coded (Kept L)
   coded_kept c =
-      code_by (List L × List ((ℕ × L) ⊎ (ℕ × L))) (coded× (coded_list c) (coded_list (coded⊎ (coded× coded_ℕ c) (coded× coded_ℕ c)))) kept_tokens kept_of kept-tokens
+      code_by (List L × List ((ℕ × L) ⊎ (ℕ × L)))
+          (coded× (coded_list c)
+          (coded_list (coded⊎ (coded× coded_ℕ c) (coded× coded_ℕ c)))) kept_tokens kept_of kept-tokens

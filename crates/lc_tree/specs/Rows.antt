@@ -41,7 +41,13 @@ module _ {L C : Type 0} where
   -- the row of a node
   abbrev pub row_of : (L → C) → (C → C → C) → Node L → Row C
   row_of one join (leaf n l) = record { clump = one l; leader = n; left = 0; count = 1 }
-  row_of one join (fork n l a b) = record { clump = join (clump_of one join a) (clump_of one join b); leader = n; left = leaf_count a; count = leaf_count a + leaf_count b }
+  row_of one join (fork n l a b) =
+      record {
+        clump = join (clump_of one join a) (clump_of one join b);
+        leader = n;
+        left = leaf_count a;
+        count = leaf_count a + leaf_count b;
+      }
 
   -- the rows of a tree, in order of the nodes' numbers
   abbrev pub rows_of : (L → C) → (C → C → C) → Node L → List (Row C)
@@ -75,7 +81,8 @@ module _ {L : Type 0} where
 
 module _ {L C : Type 0} where
   -- the rows are those of a tree
-  pub record IsLaid (valid : L → Type 0) (one : L → C) (join : C → C → C) (lights : List L) (rows : List (Row C)) (t : Node L) : Type 0 where
+  pub record IsLaid (valid : L → Type 0) (one : L → C) (join : C → C → C) (lights : List L) (rows : List (Row C))
+      (t : Node L) : Type 0 where
     pub rows_are : rows ≡ rows_of one join t
     pub tree : IsTree valid lights t
 
@@ -84,7 +91,8 @@ module _ {L C : Type 0} where
       MatchOption (read_rows lights rows) ((rows ≡ []) × (lights ≡ [])) (λ t. IsLaid valid one join lights rows t)
 
   -- the tree of the rows of a tree
-  pub read-rows_of : (one : L → C) (join : C → C → C) (lights : List L) (t : Node L) (rs : List (Row C)) → IsNumbered lights t → read lights (rows_of one join t ++ rs) ≡ t ∷ read lights rs
+  pub read-rows_of : (one : L → C) (join : C → C → C) (lights : List L) (t : Node L) (rs : List (Row C))
+      → IsNumbered lights t → read lights (rows_of one join t ++ rs) ≡ t ∷ read lights rs
   read-rows_of one join lights (leaf n l) rs h = rw h refl
   read-rows_of one join lights (fork n l a b) rs h =
       let some : (leaf_count a == 0) ≡ false = leaves_some a in
@@ -95,7 +103,8 @@ module _ {L C : Type 0} where
       rw (h.0, some, e) refl
 
   -- the row of a node, and what holds of the node
-  pub record IsRowOf (valid : L → Type 0) (one : L → C) (join : C → C → C) (lights : List L) (p : ℕ) (t : Node L) (r : Row C) : Type 0 where
+  pub record IsRowOf (valid : L → Type 0) (one : L → C) (join : C → C → C) (lights : List L) (p : ℕ) (t : Node L)
+      (r : Row C) : Type 0 where
     pub is : r ≡ row_of one join t
     pub room : p + node_count t ≤ 131072
     pub numbered : IsNumbered lights t

@@ -54,7 +54,8 @@ fn takes_left(word: u32, left: u64, right: u64) -> bool
 fn leading<K: Kind>(word: u32, left: &Row<K::Clump>, right: &Row<K::Clump>) -> u32
     requires left { K.meaning.valid_clump left.now.clump }
     requires right { K.meaning.valid_clump right.now.clump }
-    ensures { result ≡ (if takes_left word (power_weight (K.meaning.total left.now.clump)) (power_weight (K.meaning.total right.now.clump)) then left.now.leader else right.now.leader) }
+    ensures { result ≡ (if takes_left word (power_weight (K.meaning.total left.now.clump))
+        (power_weight (K.meaning.total right.now.clump)) then left.now.leader else right.now.leader) }
 {
     if takes_left(
         word,
@@ -81,7 +82,9 @@ fn grow<K: Kind>(
     ensures words { IfOk result (λ _. words.new ≡ after words.old (2 * length lights.old - 1)) }
     ensures clump { IfOk result (λ row. K.meaning.valid_clump row.clump) }
     ensures count { IfOk result (λ row. K.meaning.count row.clump ≡ length lights.old) }
-    ensures grown { IfOk result (λ row. (all : List K.Light) (g : Lcg) → All (StandsIn all) lights.old → words.old ≡ after g (vec_len rows.old) → Grown K.meaning (word_of g) all lights.old rows.old.items rows.new.items row) }
+    ensures grown { IfOk result (λ row. (all : List K.Light) (g : Lcg) → All (StandsIn all) lights.old
+        → words.old ≡ after g (vec_len rows.old)
+        → Grown K.meaning (word_of g) all lights.old rows.old.items rows.new.items row) }
 {
     let at = rows.len();
     let word = words.next_word();
@@ -123,7 +126,8 @@ pub(crate) fn rows_of_tree<K: Kind>(
     requires few { length lights.now ≤ 65536 }
     requires valid { All K.meaning.valid_light lights.now }
     ensures laid { IfOk result (λ rows. IsLaidIf K.meaning.valid_light K.meaning.one K.meaning.join lights.now rows.items) }
-    ensures tree { IfOk result (λ rows. read_rows lights.now rows.items ≡ tree_of K.meaning (stream_word seed stream) lights.now) }
+    ensures tree { IfOk result (λ rows. read_rows lights.now rows.items
+        ≡ tree_of K.meaning (stream_word seed stream) lights.now) }
 {
     let mut rows = Vec::new(alloc);
     if lights.is_empty() {

@@ -23,7 +23,8 @@ fn order_of<C: Copy>(alloc: Global, rows: &[Row<C>]) -> Result<Vec<u32>, Memory>
 fn firsts_of<C: Copy>(alloc: Global, rows: &[Row<C>]) -> Result<Vec<u32>, Memory>
     requires { length rows.now ≤ 131072 }
     ensures each { IfOk result (λ firsts. length firsts.items ≡ length rows.now) }
-    ensures firsts { IfOk result (λ firsts. (k : ℕ) → k < length rows.now → get_or firsts.items k 0 ≡ length (leaf_numbers (take k rows.now))) }
+    ensures firsts { IfOk result (λ firsts. (k : ℕ) → k < length rows.now
+        → get_or firsts.items k 0 ≡ length (leaf_numbers (take k rows.now))) }
 {
     let mut firsts = Vec::new(alloc);
     let mut first = 0;

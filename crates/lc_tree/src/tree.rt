@@ -33,12 +33,13 @@ impl<K: Kind> Model for Tree<K> {
 
     ghost view = { λ t. record { lights = t.lights.items; root = read_rows t.lights.items t.rows.items } };
 
-    ghost invariant = { λ t. IsLaidIf K.meaning.valid_light K.meaning.one K.meaning.join t.lights.items t.rows.items × IsListed t.rows.items t.leaves.order.items t.leaves.firsts.items };
+    ghost invariant = { λ t. IsLaidIf K.meaning.valid_light K.meaning.one K.meaning.join t.lights.items t.rows.items
+    × IsListed t.rows.items t.leaves.order.items t.leaves.firsts.items };
 }
 
 impl<K: Kind> Tree<K> {
-    /// The tree of at most 65,536 lights by halving, with the words of a stream of a seed. Each light of the list stands in
-    /// exactly one leaf.
+    /// The tree of at most 65,536 lights by halving, with the words of a stream of a seed. Each light of the list
+    /// stands in exactly one leaf.
     pub fn build(
         alloc: Global,
         lights: &[K::Light],
@@ -47,7 +48,8 @@ impl<K: Kind> Tree<K> {
     ) -> Result<Tree<K>, Memory>
         requires few { length lights.now ≤ 65536 }
         requires valid { All K.meaning.valid_light lights.now }
-        ensures value { IfOk result (λ t. t ≡ record { lights = lights.now; root = tree_of K.meaning (stream_word seed stream) lights.now }) }
+        ensures value { IfOk result (λ t. t
+            ≡ record { lights = lights.now; root = tree_of K.meaning (stream_word seed stream) lights.now }) }
         ensures tree { IfOk result (IsTreeIf K.meaning.valid_light) }
     {
         let rows = rows_of_tree::<K>(alloc, lights, seed, stream)?;
@@ -72,7 +74,8 @@ impl<K: Kind> Tree<K> {
 
     fn row(&self, node: u32) -> &Row<K::Clump>
         requires { node < count_of self.now.root }
-        ensures row { IsSomeAnd (node_of self.now.root node) (λ t. IsRowOf K.meaning.valid_light K.meaning.one K.meaning.join self.now.lights node t result.now) }
+        ensures row { IsSomeAnd (node_of self.now.root node)
+            (λ t. IsRowOf K.meaning.valid_light K.meaning.one K.meaning.join self.now.lights node t result.now) }
         ensures valid { K.meaning.valid_clump result.now.clump }
     {
         &self.rows[node as usize]

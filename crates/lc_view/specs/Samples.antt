@@ -25,8 +25,8 @@ picture_rays camera = map (row_rays camera) (range_with_len 0 camera.height)
 abbrev pub flat : {A : Type 0} → List (List A) → List A
 flat lists = flat_map (λ list. list) lists
 
--- the rays of all samples: the rows of the picture from the top, of each its pixels from the left, of each the rows of its
--- grid from the top, of each its columns from the left
+-- the rays of all samples: the rows of the picture from the top, of each its pixels from the left, of each the rows
+-- of its grid from the top, of each its columns from the left
 unfoldable pub sample_rays : Camera → List Ray
 sample_rays camera = flat (flat (picture_rays camera))
 

@@ -25,7 +25,8 @@ pub struct Camera {
     pub grid: u32,
 }
 
-/// The directions of a camera, each of length 16384: the way in which it looks, and the right and the top of its picture.
+/// The directions of a camera, each of length 16384: the way in which it looks, and the right and the top of its
+/// picture.
 #[derive(Clone, Copy)]
 pub(crate) struct Basis {
     pub forward: Vec3,
@@ -33,8 +34,8 @@ pub(crate) struct Basis {
     pub up: Vec3,
 }
 
-/// The directions of a camera. Where `at` is the eye all three are zero, and where `up` points along the way to `at` the
-/// right and the top are.
+/// The directions of a camera. Where `at` is the eye all three are zero, and where `up` points along the way to `at`
+/// the right and the top are.
 pub(crate) fn axes(camera: &Camera) -> Basis
     requires { IsCamera camera.now }
     ensures forward { result.forward ≡ forward_of camera.now }

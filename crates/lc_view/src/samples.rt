@@ -6,8 +6,8 @@ ghost use Rattle.lc_view.specs.Samples.{ray_at, sample_count, sample_rays};
 use crate::camera::Camera;
 use crate::ray::{Ray, ray_of};
 
-/// The ray through the sample of a number in a pixel. A pixel's samples are numbered from 0, by the rows of its grid from
-/// the top, and of each its columns from the left.
+/// The ray through the sample of a number in a pixel. A pixel's samples are numbered from 0, by the rows of its grid
+/// from the top, and of each its columns from the left.
 fn ray_in_pixel(camera: &Camera, row: u32, col: u32, place: u32) -> Ray
     requires camera { IsCamera camera.now }
     requires row { row < camera.now.height }
@@ -19,8 +19,9 @@ fn ray_in_pixel(camera: &Camera, row: u32, col: u32, place: u32) -> Ray
     ray_of(camera, col, row, place % camera.grid, place / camera.grid)
 }
 
-/// The ray through the sample of a number. The samples of a picture are numbered from 0, by the rows of the picture from the
-/// top, of each its pixels from the left, of each the rows of its grid from the top, of each its columns from the left.
+/// The ray through the sample of a number. The samples of a picture are numbered from 0, by the rows of the picture
+/// from the top, of each its pixels from the left, of each the rows of its grid from the top, of each its columns
+/// from the left.
 pub fn ray_of_sample(camera: &Camera, sample: u64) -> Ray
     requires camera { IsCamera camera.now }
     requires sample { sample < sample_count camera.now }

@@ -5,21 +5,9 @@
 # program renders. Give the number of runs, and the paths of programs of the same commands that are to be compared;
 # without one it takes the built program.
 set -eu
-here=$(cd "$(dirname "$0")/.." && pwd)
 runs=${1:-3}
-shift || true
-programs=("$@")
-[ ${#programs[@]} -gt 0 ] || programs=("$here/crates/lightcuts/out/lightcuts")
-for at in "${!programs[@]}"; do
-    programs[at]=$(realpath "${programs[at]}")
-done
-work=$(mktemp -d)
-trap 'rm -rf "$work"' EXIT
-cd "$work"
-cp "$here/scenes/room.obj" "$here/scenes/room.mtl" .
-awk 'BEGIN { n = 1000; for (i = 0; i < n; i++)
-    printf "point %.4f %.4f %.4f %.4f %.4f %.4f\n", (i * 37 % 1009) / 180 - 2.8, 0.3 + (i * 29 % 997) / 400,
-        (i * 53 % 1013) / 220 - 2.3, 20 / n, 17 / n, 12 / n }' >r.lights
+. "$(dirname "$0")/rooms.sh"
+many_lights 1000 >r.lights
 cat >r.txt <<'END'
 scene room.obj
 lights r.lights

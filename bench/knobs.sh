@@ -5,20 +5,15 @@
 # bounds and of the real errors in thousandths of the sums, the root of the mean square of the real errors, and the greatest
 # real error as a share of its bound, in the green channel. Give the path of the program; without one it takes the built one.
 set -eu
-here=$(cd "$(dirname "$0")/.." && pwd)
-program=$(realpath "${1:-$here/crates/lightcuts/out/lightcuts}")
-work=$(mktemp -d)
-trap 'rm -rf "$work"' EXIT
-cd "$work"
-cp "$here/scenes/room.obj" "$here/scenes/room.mtl" .
+set -- 1 "$@"
+. "$(dirname "$0")/rooms.sh"
+program=${programs[0]}
 job() {
     printf 'scene room.obj\nlights %s.lights\npicture %s.ppm\nbounds %s.lcb\neye 2.2 1.7 2.3\nat -0.5 0.9 -0.6\nview 0.75\nsize 64 48\nwhite 1.6\ncut %s\nerror %s\n' \
         "$1" "$2" "$2" "$3" "$4" >"$2.txt"
 }
 for count in 100 1000 10000; do
-    awk -v n="$count" 'BEGIN { for (i = 0; i < n; i++)
-        printf "point %.4f %.4f %.4f %.4f %.4f %.4f\n", (i * 37 % 1009) / 180 - 2.8, 0.3 + (i * 29 % 997) / 400,
-            (i * 53 % 1013) / 220 - 2.3, 20 / n, 17 / n, 12 / n }' >"$count.lights"
+    many_lights "$count" >"$count.lights"
     job "$count" sums 65536 0
     "$program" render sums.txt
     for knobs in "30 20" "100 20" "300 20" "1000 20" "3000 20" "10000 20" "300 0" "300 100" "10000 100"; do

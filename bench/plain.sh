@@ -3,18 +3,8 @@
 # cut, start to end with its files: the least of so many runs, the programs and commands in turn. Give the number of runs, and
 # the paths of programs of the same commands that are to be compared; without one it takes the built program.
 set -eu
-here=$(cd "$(dirname "$0")/.." && pwd)
 runs=${1:-5}
-shift || true
-programs=("$@")
-[ ${#programs[@]} -gt 0 ] || programs=("$here/crates/lightcuts/out/lightcuts")
-for at in "${!programs[@]}"; do
-    programs[at]=$(realpath "${programs[at]}")
-done
-work=$(mktemp -d)
-trap 'rm -rf "$work"' EXIT
-cd "$work"
-cp "$here/scenes/room.obj" "$here/scenes/room.mtl" .
+. "$(dirname "$0")/rooms.sh"
 for count in 100 1000; do
     awk -v n="$count" 'BEGIN { for (i = 0; i < n; i++)
         printf "point %.4f %.4f %.4f %.4f %.4f %.4f\n", (i * 37 % 101) / 18 - 2.8, 0.3 + (i * 29 % 97) / 40, (i * 53 % 103) / 22 - 2.3,

@@ -5,23 +5,11 @@
 # green channel. Give the number of runs, and the paths of programs of the same commands that are to be compared; without one
 # it takes the built program.
 set -eu
-here=$(cd "$(dirname "$0")/.." && pwd)
 runs=${1:-5}
-shift || true
-programs=("$@")
-[ ${#programs[@]} -gt 0 ] || programs=("$here/crates/lightcuts/out/lightcuts")
-for at in "${!programs[@]}"; do
-    programs[at]=$(realpath "${programs[at]}")
-done
-work=$(mktemp -d)
-trap 'rm -rf "$work"' EXIT
-cd "$work"
-cp "$here/scenes/room.obj" "$here/scenes/room.mtl" .
+. "$(dirname "$0")/rooms.sh"
 declare -A cuts=([1000]=300 [10000]=1000)
 for count in 1000 10000; do
-    awk -v n="$count" 'BEGIN { for (i = 0; i < n; i++)
-        printf "point %.4f %.4f %.4f %.4f %.4f %.4f\n", (i * 37 % 1009) / 180 - 2.8, 0.3 + (i * 29 % 997) / 400, (i * 53 % 1013) / 220 - 2.3,
-            20 / n, 17 / n, 12 / n }' >"$count.lights"
+    many_lights "$count" >"$count.lights"
     for rule in 1 2; do
         printf 'scene room.obj\nlights %s.lights\npicture %s-%s.ppm\nbounds %s-%s.lcb\neye 2.2 1.7 2.3\nat -0.5 0.9 -0.6\nview 0.75\nsize 64 48\nwhite 1.6\ncut %s\nrule %s\n' \
             "$count" "$count" "$rule" "$count" "$rule" "${cuts[$count]}" "$rule" >"$count-$rule.txt"

@@ -4,7 +4,7 @@ use Rattle.std.specs.Int.RustNames.{unsigned_abs}
 use Rattle.std.specs.Int.{int_min, int_max}
 use Rattle.std.proofs.lemmas.Int.{ints, clamps}
 use Rattle.lc_num.specs.Vectors.{Within, difference, greater, lesser}
-use Rattle.lc_num.specs.Boxes.{Ends, IsOrdered, IsInside, IsBoxWithin}
+use Rattle.lc_num.specs.Boxes.{SpanEnds, IsOrdered, IsInside, IsBoxWithin}
 use Rattle.lc_num.specs.declared.vectors.Vec3.{Vec3}
 use Rattle.lc_num.proofs.ExtremeLemmas.{greater_within, lesser_within}
 use Rattle.lc_bound.specs.Hull.{point_box, hull, box_from, box_to}
@@ -24,7 +24,7 @@ point_box-within m p h = record { lo = h; hi = h }
 
 -- ---- around two boxes
 
-pub hull-within : (m : ℕ) (a b : Ends) → IsBoxWithin m a → IsBoxWithin m b → IsBoxWithin m (hull a b)
+pub hull-within : (m : ℕ) (a b : SpanEnds) → IsBoxWithin m a → IsBoxWithin m b → IsBoxWithin m (hull a b)
 hull-within m a b ha hb =
     record { lo = lesser_within m a.lo b.lo ha.lo hb.lo; hi = greater_within m a.hi b.hi ha.hi hb.hi }
 
@@ -36,7 +36,7 @@ from_right : (lo hi p lo2 hi2 : ℤ) → (lo2 ≤ℤ p) × (p ≤ℤ hi2) → (i
 from_right lo hi p lo2 hi2 h =
     let low = h.0 in let high = h.1 in (omega (arith, ints, clamps), omega (arith, ints, clamps))
 
-pub hull-inside : (a b : Ends) (p : Vec3) → IsInside a p ⊎ IsInside b p → IsInside (hull a b) p
+pub hull-inside : (a b : SpanEnds) (p : Vec3) → IsInside a p ⊎ IsInside b p → IsInside (hull a b) p
 hull-inside a b p (inl h) = record {
   x = from_left a.lo.x a.hi.x p.x b.lo.x b.hi.x h.x;
   y = from_left a.lo.y a.hi.y p.y b.lo.y b.hi.y h.y;
@@ -70,7 +70,7 @@ difference-within m n a b ha hb = record {
   z = difference_small m n a.z b.z ha.z hb.z;
 }
 
-pub box_from-within : (m n : ℕ) (x : Vec3) (box : Ends) → Within m x → IsBoxWithin n box
+pub box_from-within : (m n : ℕ) (x : Vec3) (box : SpanEnds) → Within m x → IsBoxWithin n box
     → IsBoxWithin (n + m) (box_from x box)
 box_from-within m n x box hx hb =
     record { lo = difference-within n m box.lo x hb.lo hx; hi = difference-within n m box.hi x hb.hi hx }
@@ -85,7 +85,7 @@ pub box_from-ordered : (a b x : Vec3) → IsOrdered a b → IsOrdered (differenc
 box_from-ordered a b x h =
     record { x = moved_order a.x b.x x.x h.x; y = moved_order a.y b.y x.y h.y; z = moved_order a.z b.z x.z h.z }
 
-pub box_from-inside : (x : Vec3) (box : Ends) (p : Vec3) → IsInside box p → IsInside (box_from x box) (difference p x)
+pub box_from-inside : (x : Vec3) (box : SpanEnds) (p : Vec3) → IsInside box p → IsInside (box_from x box) (difference p x)
 box_from-inside x box p h = record {
   x = moved box.lo.x box.hi.x p.x x.x h.x;
   y = moved box.lo.y box.hi.y p.y x.y h.y;
@@ -94,7 +94,7 @@ box_from-inside x box p h = record {
 
 -- ---- as a place is seen from it
 
-pub box_to-within : (m n : ℕ) (x : Vec3) (box : Ends) → Within m x → IsBoxWithin n box
+pub box_to-within : (m n : ℕ) (x : Vec3) (box : SpanEnds) → Within m x → IsBoxWithin n box
     → IsBoxWithin (m + n) (box_to x box)
 box_to-within m n x box hx hb =
     record { lo = difference-within m n x box.hi hx hb.hi; hi = difference-within m n x box.lo hx hb.lo }
@@ -109,7 +109,7 @@ pub box_to-ordered : (a b x : Vec3) → IsOrdered a b → IsOrdered (difference 
 box_to-ordered a b x h =
     record { x = turned_order a.x b.x x.x h.x; y = turned_order a.y b.y x.y h.y; z = turned_order a.z b.z x.z h.z }
 
-pub box_to-inside : (x : Vec3) (box : Ends) (p : Vec3) → IsInside box p → IsInside (box_to x box) (difference x p)
+pub box_to-inside : (x : Vec3) (box : SpanEnds) (p : Vec3) → IsInside box p → IsInside (box_to x box) (difference x p)
 box_to-inside x box p h = record {
   x = turned box.lo.x box.hi.x p.x x.x h.x;
   y = turned box.lo.y box.hi.y p.y x.y h.y;

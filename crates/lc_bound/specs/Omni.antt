@@ -2,7 +2,7 @@
 use Rattle.std.specs.Prelude.{ℕ, ◌+◌, ◌*◌, ◌≤◌, ◌^◌}
 use Rattle.lc_num.specs.Channels.{IsPowerWithin, times, by_power, power_plus}
 use Rattle.lc_num.specs.Vectors.{difference, square}
-use Rattle.lc_num.specs.Boxes.{Ends, IsBoxWithin, IsInside, near2}
+use Rattle.lc_num.specs.Boxes.{SpanEnds, IsBoxWithin, IsInside, near2}
 use Rattle.lc_num.specs.declared.vectors.Vec3.{Vec3}
 use Rattle.lc_num.specs.declared.channels.Rgb.{Rgb}
 use Rattle.lc_num.specs.declared.channels.Power.{Power}
@@ -16,7 +16,7 @@ use Rattle.lc_bound.specs.Reach.{falloff, material_top}
 
 -- the box of the lights' places, their summed intensity, and how many they are
 pub record Clump : Type 0 where
-  pub box : Ends
+  pub box : SpanEnds
   pub total : Power
   pub count : ℕ
 

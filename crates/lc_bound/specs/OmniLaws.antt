@@ -37,8 +37,12 @@ join_valid a b ha hb few = record {
   some = omega (arith, ha.some);
   few = few;
   total =
-      record { r = omega (arith, ha.total.r, hb.total.r); g = omega (arith, ha.total.g, hb.total.g); b = omega
-          (arith, ha.total.b, hb.total.b) };
+      record {
+        r = omega (arith, ha.total.r, hb.total.r);
+        g = omega (arith, ha.total.g, hb.total.g);
+        b = omega
+            (arith, ha.total.b, hb.total.b);
+      };
 }
 
 reach_within : (spot : Spot) (c : Clump) (r : Rule) → IsSpot spot → IsClump c
@@ -54,17 +58,17 @@ seen_dominates : (spot : Spot) (c : Clump) (r : Rule) (light : Omni) → IsSpot 
 seen_dominates spot c r light hs hc hl inside =
     let near = near2-least spot.x c.box light.place inside in
     times-rises (geometry spot.x light) (falloff (near2 spot.x c.box)) (material spot (toward spot.x light))
-        (material_top spot (box_from spot.x c.box) (near2 spot.x c.box) r)
+    (material_top spot (box_from spot.x c.box) (near2 spot.x c.box) r)
     (falloff-falls (near2 spot.x c.box) (square (difference light.place spot.x)) near)
     (material-below spot (box_from spot.x c.box) (near2 spot.x c.box) r (difference light.place spot.x)
-        (box_from-inside spot.x c.box light.place inside) near)
+    (box_from-inside spot.x c.box light.place inside) near)
 
 sharper : (spot : Spot) (c : Clump) → IsAtMost (reach spot c rule.One) (reach spot c rule.Two)
 sharper spot c =
     let box = box_from spot.x c.box in
     let near = near2 spot.x c.box in
     times-rises (falloff near) (falloff near) (material_top spot box near rule.Two)
-        (material_top spot box near rule.One)
+    (material_top spot box near rule.One)
     (le_refl (falloff near))
     (material_top-sharper spot box near)
 
@@ -89,6 +93,6 @@ omni_laws = record {
   top_is = λ spot c r hs hc. refl;
   dominates =
       λ ts spot c r light hs hc hl h.
-          factor-below omni_meaning ts spot light (reach spot c r) (seen_dominates spot c r light hs hc hl h);
+      factor-below omni_meaning ts spot light (reach spot c r) (seen_dominates spot c r light hs hc hl h);
   sharper = λ spot c hs hc. sharper spot c;
 }

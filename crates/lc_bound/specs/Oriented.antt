@@ -3,7 +3,7 @@ use Rattle.std.specs.Prelude.{ℕ, ◌+◌, ◌*◌, ◌≤◌, ◌^◌, min}
 use Rattle.lc_num.specs.Channels.{IsPowerWithin, times, by_power, power_plus}
 use Rattle.lc_num.specs.Cosines.{cos16}
 use Rattle.lc_num.specs.Vectors.{difference, square}
-use Rattle.lc_num.specs.Boxes.{Ends, IsBoxWithin, IsInside, near2}
+use Rattle.lc_num.specs.Boxes.{SpanEnds, IsBoxWithin, IsInside, near2}
 use Rattle.lc_num.specs.declared.vectors.Vec3.{Vec3}
 use Rattle.lc_num.specs.declared.channels.Rgb.{Rgb}
 use Rattle.lc_num.specs.declared.channels.Power.{Power}
@@ -18,8 +18,8 @@ use Rattle.lc_bound.specs.Reach.{emission_top, emitted, falloff, material_top}
 -- the box of the lights' places, the box of their normals, the least squared length of a normal, their summed
 -- intensity, and how many they are
 pub record Clump : Type 0 where
-  pub box : Ends
-  pub normals : Ends
+  pub box : SpanEnds
+  pub normals : SpanEnds
   pub least : ℕ
   pub total : Power
   pub count : ℕ

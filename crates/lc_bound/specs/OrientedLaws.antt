@@ -51,8 +51,12 @@ join_valid a b ha hb few = record {
   some = omega (arith, ha.some);
   few = few;
   total =
-      record { r = omega (arith, ha.total.r, hb.total.r); g = omega (arith, ha.total.g, hb.total.g); b = omega
-          (arith, ha.total.b, hb.total.b) };
+      record {
+        r = omega (arith, ha.total.r, hb.total.r);
+        g = omega (arith, ha.total.g, hb.total.g);
+        b = omega
+            (arith, ha.total.b, hb.total.b);
+      };
 }
 
 one_covers : (light : Oriented) → Covers (one light) light
@@ -79,7 +83,7 @@ reach_within : (spot : Spot) (c : Clump) (r : Rule) → IsSpot spot
 reach_within spot c r hs =
     times-small (geometry_top spot.x c r) (material_top spot (box_from spot.x c.box) (near2 spot.x c.box) r)
     (emitted-small (emission_top r c.normals c.least (box_to spot.x c.box) (near2 spot.x c.box))
-        (falloff (near2 spot.x c.box))
+    (falloff (near2 spot.x c.box))
     (emission_top-small r c.normals c.least (box_to spot.x c.box) (near2 spot.x c.box))
     (falloff-small (near2 spot.x c.box)))
     (material_top-small spot (box_from spot.x c.box) (near2 spot.x c.box) r hs)
@@ -89,11 +93,11 @@ geometry_below : (x : Vec3) (c : Clump) (r : Rule) (light : Oriented) → Covers
     → near2 x c.box ≤ square (difference light.place x) → geometry x light ≤ geometry_top x c r
 geometry_below x c r light h near =
     emitted-rises (cos16 light.normal (difference x light.place))
-        (emission_top r c.normals c.least (box_to x c.box) (near2 x c.box))
-        (falloff (square (difference light.place x))) (falloff (near2 x c.box))
+    (emission_top r c.normals c.least (box_to x c.box) (near2 x c.box))
+    (falloff (square (difference light.place x))) (falloff (near2 x c.box))
     (emission-below r light.normal (difference x light.place) c.normals c.least (box_to x c.box)
-        (near2 x c.box) h.normal (box_to-inside x c.box light.place h.place) h.least
-        (rw (square-turned x light.place) near))
+    (near2 x c.box) h.normal (box_to-inside x c.box light.place h.place) h.least
+    (rw (square-turned x light.place) near))
     (falloff-falls (near2 x c.box) (square (difference light.place x)) near)
 
 -- no light that a clump covers and that is seen has a greater factor than the clump's bound
@@ -102,17 +106,17 @@ seen_dominates : (spot : Spot) (c : Clump) (r : Rule) (light : Oriented) → Cov
 seen_dominates spot c r light h =
     let near = near2-least spot.x c.box light.place h.place in
     times-rises (geometry spot.x light) (geometry_top spot.x c r) (material spot (toward spot.x light))
-        (material_top spot (box_from spot.x c.box) (near2 spot.x c.box) r)
+    (material_top spot (box_from spot.x c.box) (near2 spot.x c.box) r)
     (geometry_below spot.x c r light h near)
     (material-below spot (box_from spot.x c.box) (near2 spot.x c.box) r (difference light.place spot.x)
-        (box_from-inside spot.x c.box light.place h.place) near)
+    (box_from-inside spot.x c.box light.place h.place) near)
 
 geometry_sharper : (x : Vec3) (c : Clump) → geometry_top x c rule.Two ≤ geometry_top x c rule.One
 geometry_sharper x c =
     let offsets = box_to x c.box in
     let near = near2 x c.box in
     emitted-rises (emission_top rule.Two c.normals c.least offsets near)
-        (emission_top rule.One c.normals c.least offsets near) (falloff near) (falloff near)
+    (emission_top rule.One c.normals c.least offsets near) (falloff near) (falloff near)
     (emission_top-sharper c.normals c.least offsets near)
     (le_refl (falloff near))
 
@@ -121,7 +125,7 @@ sharper spot c =
     let box = box_from spot.x c.box in
     let near = near2 spot.x c.box in
     times-rises (geometry_top spot.x c rule.Two) (geometry_top spot.x c rule.One)
-        (material_top spot box near rule.Two) (material_top spot box near rule.One)
+    (material_top spot box near rule.Two) (material_top spot box near rule.One)
     (geometry_sharper spot.x c)
     (material_top-sharper spot box near)
 
@@ -146,6 +150,6 @@ oriented_laws = record {
   top_is = λ spot c r hs hc. refl;
   dominates =
       λ ts spot c r light hs hc hl h.
-          factor-below oriented_meaning ts spot light (reach spot c r) (seen_dominates spot c r light h);
+      factor-below oriented_meaning ts spot light (reach spot c r) (seen_dominates spot c r light h);
   sharper = λ spot c hs hc. sharper spot c;
 }

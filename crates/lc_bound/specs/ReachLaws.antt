@@ -7,7 +7,7 @@ use Rattle.lc_num.specs.Channels.{IsRgbWithin, times, IsAtMost}
 use Rattle.lc_num.specs.Cosines.{cos16}
 use Rattle.lc_num.specs.Powers.{pow16}
 use Rattle.lc_num.specs.Vectors.{square}
-use Rattle.lc_num.specs.Boxes.{Ends, IsInside}
+use Rattle.lc_num.specs.Boxes.{SpanEnds, IsInside}
 use Rattle.lc_num.specs.declared.vectors.Vec3.{Vec3}
 use Rattle.lc_num.specs.declared.channels.Rgb.{Rgb}
 use Rattle.lc_num.specs.declared.rules.Rule.{Rule}
@@ -36,7 +36,7 @@ falloff-small square = quotient_falls (10 ^ 17) (10 ^ 4) (max square (10 ^ 4)) (
 pub emitted-rises : (c d g h : ℕ) → c ≤ d → g ≤ h → emitted c g ≤ emitted d h
 emitted-rises c d g h more_cosine more =
     le-div (c * g / 65536) (d * h) 65536 (omega arith)
-        (le_trans (div-mul-le_self (c * g) 65536) (mul-le c g d h more_cosine more))
+    (le_trans (div-mul-le_self (c * g) 65536) (mul-le c g d h more_cosine more))
 
 pub emitted-small : (cosine geometry : ℕ) → cosine ≤ 65536 → geometry ≤ 10 ^ 13 → emitted cosine geometry ≤ 10 ^ 13
 emitted-small cosine geometry small most = emitted-rises cosine 65536 geometry (10 ^ 13) small most
@@ -58,7 +58,7 @@ material-rises spot c e m k more higher =
     ⊎_elim
     (λ (lit : 0 < c). let lit_too : 0 < e = omega arith in
     rw (material-of_lit spot c m lit, material-of_lit spot e k lit_too)
-        (reflected-rises spot c e (pow16 m spot.ns) (pow16 k spot.ns) more (pow16-rises m k spot.ns higher)))
+    (reflected-rises spot c e (pow16 m spot.ns) (pow16 k spot.ns) more (pow16-rises m k spot.ns higher)))
     (λ (dark : c ≤ 0). let none : c ≡ 0 = omega arith in
     rw (← material-dark spot c m none) (black-below (material_by spot e k)))
     (cases_lt 0 c)
@@ -79,23 +79,23 @@ material-small : (spot : Spot) (c m : ℕ) → IsSpot spot → c ≤ 65_536 → 
 material-small spot c m valid hc hm =
     ⊎_elim
     (λ (lit : 0 < c). rw (material-of_lit spot c m lit)
-        (reflected-small spot c (pow16 m spot.ns) valid hc (pow16-most m spot.ns hm)))
+    (reflected-small spot c (pow16 m spot.ns) valid hc (pow16-most m spot.ns hm)))
     (λ (dark : c ≤ 0). let none : c ≡ 0 = omega arith in
     rw (← material-dark spot c m none) (record { r = omega arith; g = omega arith; b = omega arith }))
     (cases_lt 0 c)
 
 -- ---- bounds of cosines under both rules
 
-cosine-below : (r : Rule) (n b : Vec3) (box : Ends) (least : ℕ) → IsInside box b → least ≤ square b
+cosine-below : (r : Rule) (n b : Vec3) (box : SpanEnds) (least : ℕ) → IsInside box b → least ≤ square b
     → cos16 n b ≤ cosine_top r n box least
 cosine-below rule.One n b box least inside long = cos16_below_cos_top n b box least inside long
 cosine-below rule.Two n b box least inside long = cos16_below_cos_top2 n b box least inside long
 
-cosine_top-small : (r : Rule) (n : Vec3) (box : Ends) (least : ℕ) → cosine_top r n box least ≤ 65536
+cosine_top-small : (r : Rule) (n : Vec3) (box : SpanEnds) (least : ℕ) → cosine_top r n box least ≤ 65536
 cosine_top-small rule.One n box least = cos_top-small n box least
 cosine_top-small rule.Two n box least = cos_top2-small n box least
 
-pub emission-below : (r : Rule) (m d : Vec3) (normals : Ends) (least_n : ℕ) (offsets : Ends) (least_d : ℕ)
+pub emission-below : (r : Rule) (m d : Vec3) (normals : SpanEnds) (least_n : ℕ) (offsets : SpanEnds) (least_d : ℕ)
     → IsInside normals m → IsInside offsets d → least_n ≤ square m → least_d ≤ square d
     → cos16 m d ≤ emission_top r normals least_n offsets least_d
 emission-below rule.One m d normals least_n offsets least_d hm hd long_n long_d =
@@ -103,7 +103,7 @@ emission-below rule.One m d normals least_n offsets least_d hm hd long_n long_d 
 emission-below rule.Two m d normals least_n offsets least_d hm hd long_n long_d =
     cos16_below_emit_top2 m d normals least_n offsets least_d hm hd long_n long_d
 
-pub emission_top-small : (r : Rule) (normals : Ends) (least_n : ℕ) (offsets : Ends) (least_d : ℕ)
+pub emission_top-small : (r : Rule) (normals : SpanEnds) (least_n : ℕ) (offsets : SpanEnds) (least_d : ℕ)
     → emission_top r normals least_n offsets least_d ≤ 65536
 emission_top-small rule.One normals least_n offsets least_d = emit_top-small normals least_n offsets least_d
 emission_top-small rule.Two normals least_n offsets least_d = emit_top2-small normals least_n offsets least_d
@@ -111,30 +111,30 @@ emission_top-small rule.Two normals least_n offsets least_d = emit_top2-small no
 -- ---- the material bound
 
 -- the light from a vector of the box that is not shorter than `least`
-pub material-below : (spot : Spot) (box : Ends) (least : ℕ) (r : Rule) (b : Vec3) → IsInside box b
+pub material-below : (spot : Spot) (box : SpanEnds) (least : ℕ) (r : Rule) (b : Vec3) → IsInside box b
     → least ≤ square b → IsAtMost (material_top spot box least r) (material spot b)
 material-below spot box least r b inside long =
     material-rises spot (cos16 spot.n b) (cosine_top r spot.n box least) (cos16 spot.r b)
-        (cosine_top r spot.r box least)
+    (cosine_top r spot.r box least)
     (cosine-below r spot.n b box least inside long)
     (cosine-below r spot.r b box least inside long)
 
-pub material_top-small : (spot : Spot) (box : Ends) (least : ℕ) (r : Rule) → IsSpot spot
+pub material_top-small : (spot : Spot) (box : SpanEnds) (least : ℕ) (r : Rule) → IsSpot spot
     → IsRgbWithin (20_000 * 65_536) (material_top spot box least r)
 material_top-small spot box least r h =
     material-small spot (cosine_top r spot.n box least) (cosine_top r spot.r box least) h
-        (cosine_top-small r spot.n box least) (cosine_top-small r spot.r box least)
+    (cosine_top-small r spot.n box least) (cosine_top-small r spot.r box least)
 
 -- the second rule's is nowhere above the first one's
-pub material_top-sharper : (spot : Spot) (box : Ends) (least : ℕ)
+pub material_top-sharper : (spot : Spot) (box : SpanEnds) (least : ℕ)
     → IsAtMost (material_top spot box least rule.One) (material_top spot box least rule.Two)
 material_top-sharper spot box least =
     material-rises spot (cosine_top rule.Two spot.n box least) (cosine_top rule.One spot.n box least)
-        (cosine_top rule.Two spot.r box least) (cosine_top rule.One spot.r box least)
+    (cosine_top rule.Two spot.r box least) (cosine_top rule.One spot.r box least)
     (cos_top2-below spot.n box least)
     (cos_top2-below spot.r box least)
 
-pub emission_top-sharper : (normals : Ends) (least_n : ℕ) (offsets : Ends) (least_d : ℕ)
+pub emission_top-sharper : (normals : SpanEnds) (least_n : ℕ) (offsets : SpanEnds) (least_d : ℕ)
     → emission_top rule.Two normals least_n offsets least_d ≤ emission_top rule.One normals least_n offsets least_d
 emission_top-sharper normals least_n offsets least_d = emit_top2-below normals least_n offsets least_d
 

@@ -2,7 +2,7 @@
 use Rattle.std.specs.Prelude.{ℕ, ◌+◌, ◌*◌, ◌≤◌, ◌^◌, min, pos, ◌+ℤ◌, ◌*ℤ◌}
 use Rattle.lc_num.specs.Channels.{IsPowerWithin, times, by_power, power_plus}
 use Rattle.lc_num.specs.Vectors.{square}
-use Rattle.lc_num.specs.Boxes.{Ends, IsBoxWithin, IsInside}
+use Rattle.lc_num.specs.Boxes.{SpanEnds, IsBoxWithin, IsInside}
 use Rattle.lc_num.specs.declared.vectors.Vec3.{Vec3}
 use Rattle.lc_num.specs.declared.channels.Rgb.{Rgb}
 use Rattle.lc_num.specs.declared.channels.Power.{Power}
@@ -16,7 +16,7 @@ use Rattle.lc_bound.specs.Reach.{material_top}
 
 -- the box of the suns' directions, the least squared length of one, their summed intensity, and how many they are
 pub record Clump : Type 0 where
-  pub box : Ends
+  pub box : SpanEnds
   pub least : ℕ
   pub total : Power
   pub count : ℕ

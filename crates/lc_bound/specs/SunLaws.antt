@@ -47,8 +47,12 @@ join_valid a b ha hb few = record {
   some = omega (arith, ha.some);
   few = few;
   total =
-      record { r = omega (arith, ha.total.r, hb.total.r); g = omega (arith, ha.total.g, hb.total.g); b = omega
-          (arith, ha.total.b, hb.total.b) };
+      record {
+        r = omega (arith, ha.total.r, hb.total.r);
+        g = omega (arith, ha.total.g, hb.total.g);
+        b = omega
+            (arith, ha.total.b, hb.total.b);
+      };
 }
 
 join_covers : (a b : Clump) (light : Sun) → Covers a light ⊎ Covers b light → Covers (join a b) light
@@ -72,7 +76,7 @@ seen_dominates spot c r light hs hc hl covered =
 sharper : (spot : Spot) (c : Clump) → IsAtMost (reach spot c rule.One) (reach spot c rule.Two)
 sharper spot c =
     times-rises (10 ^ 9) (10 ^ 9) (material_top spot c.box c.least rule.Two)
-        (material_top spot c.box c.least rule.One) (le_refl (10 ^ 9))
+    (material_top spot c.box c.least rule.One) (le_refl (10 ^ 9))
     (material_top-sharper spot c.box c.least)
 
 pub sun_laws : Laws sun_meaning
@@ -96,6 +100,6 @@ sun_laws = record {
   top_is = λ spot c r hs hc. refl;
   dominates =
       λ ts spot c r light hs hc hl h.
-          factor-below sun_meaning ts spot light (reach spot c r) (seen_dominates spot c r light hs hc hl h);
+      factor-below sun_meaning ts spot light (reach spot c r) (seen_dominates spot c r light hs hc hl h);
   sharper = λ spot c hs hc. sharper spot c;
 }

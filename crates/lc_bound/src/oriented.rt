@@ -30,7 +30,7 @@ impl Model for OrientedClump {
     ghost view = { λ c. record { box = c.span; normals = c.normals; least = c.least; total = c.total; count = c.count } };
 
     ghost inverse = { λ c.
-    record { span = c.box; normals = c.normals; least = c.least; total = c.total; count = c.count } };
+        record { span = c.box; normals = c.normals; least = c.least; total = c.total; count = c.count } };
 }
 
 /// The kind of lights that shine from one side of a surface, with the cosine to its normal.

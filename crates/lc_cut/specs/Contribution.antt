@@ -27,4 +27,4 @@ module _ {L C : Type 0} where
 abbrev pub plain : List Tri → Spot → Lights → Rgb
 plain ts spot lights =
     plus (plus (plain_of omni_meaning ts spot lights.omni) (plain_of oriented_meaning ts spot lights.oriented))
-        (plain_of sun_meaning ts spot lights.sun)
+    (plain_of sun_meaning ts spot lights.sun)

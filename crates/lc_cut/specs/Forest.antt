@@ -35,8 +35,8 @@ pub record ForestParts : Type 0 where
 abbrev pub coded_parts : Coded ForestParts
 coded_parts =
     code_by (Kept Omni × (Kept Oriented × Kept Sun))
-        (coded× (coded_kept omnis.the_row.coded)
-        (coded× (coded_kept orienteds.the_row.coded) (coded_kept suns.the_row.coded)))
+    (coded× (coded_kept omnis.the_row.coded)
+    (coded× (coded_kept orienteds.the_row.coded) (coded_kept suns.the_row.coded)))
     (λ f. (f.omni, (f.oriented, f.sun))) (λ p. record { omni = p.0; oriented = p.1.0; sun = p.1.1 }) (λ _. refl)
 
 -- the trees of lists of lights by halving, with the words of streams 0, 1 and 2

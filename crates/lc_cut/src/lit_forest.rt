@@ -40,10 +40,10 @@ impl<T: Triangles> Lighting for LitForest<'_, T> {
     type Kept = Rgb;
 
     ghost trees = { λ f. trees_of (T.list f.scene.now) f.spot.now f.rule
-    (record { omni = f.omni.now; oriented = f.oriented.now; sun = f.sun.now }) };
+        (record { omni = f.omni.now; oriented = f.oriented.now; sun = f.sun.now }) };
 
     ghost keeps = { λ f. keeps_of (T.list f.scene.now) f.spot.now
-    (record { omni = f.omni.now; oriented = f.oriented.now; sun = f.sun.now }) };
+        (record { omni = f.omni.now; oriented = f.oriented.now; sun = f.sun.now }) };
 
     fn root<L: Ledger>(&self, kind: LightKind, steps: &mut Steps<L>) -> Option<Found<Rgb>> {
         match kind {

@@ -31,4 +31,4 @@ plain_put white row = put Picture (plain_bytes white row) ∷ []
 unfoldable pub plain_calls : Job → List (List (List Rgb)) → List Call
 plain_calls job rows =
     begin Picture job.picture ∷ put Picture (tone.header_bytes job.camera.width job.camera.height) ∷ flat_map
-        (plain_put job.white) rows
+    (plain_put job.white) rows

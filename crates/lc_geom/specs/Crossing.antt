@@ -20,7 +20,7 @@ are_opposite s r = (int_lt s (pos 0) && int_lt (pos 0) r) || (int_lt (pos 0) s &
 abbrev pub have_one_sign : ℤ → ℤ → ℤ → Bool
 have_one_sign u v w =
     (int_le (pos 0) u && (int_le (pos 0) v && int_le (pos 0) w)) ||
-        (int_le u (pos 0) && (int_le v (pos 0) && int_le w (pos 0)))
+    (int_le u (pos 0) && (int_le v (pos 0) && int_le w (pos 0)))
 
 -- the segment's ends lie strictly on both sides of the plane, and it passes all sides of the triangle on one side, or
 -- meets them

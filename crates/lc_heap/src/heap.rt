@@ -30,7 +30,7 @@ impl Model for Heap {
     ghost view = { λ h. record { entries = h.entries.items; room = h.room } };
 
     ghost invariant = { λ h. IsHeap h.entries.items × (length h.entries.items ≤ h.room)
-    × (h.room ≤ vec_capacity h.entries) };
+        × (h.room ≤ vec_capacity h.entries) };
 }
 
 impl Heap {

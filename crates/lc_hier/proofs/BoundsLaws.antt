@@ -8,7 +8,7 @@ use Rattle.lc_num.specs.Vectors.{greater, lesser}
 use Rattle.lc_num.specs.declared.vectors.Vec3.{Vec3}
 use Rattle.lc_geom.specs.declared.triangle.Tri.{Tri}
 use Rattle.lc_hier.specs.declared.bounds.Bounds.{Bounds}
-use Rattle.lc_hier.specs.Boxes.{IsInside, Holds, place_of}
+use Rattle.lc_hier.specs.Boxes.{IsInBounds, Holds, place_of}
 
 -- a box reaches as far as another on each axis
 pub record Covers (outer inner : Bounds) : Type 0 where
@@ -19,7 +19,7 @@ pub record Covers (outer inner : Bounds) : Type 0 where
   pub high_y : inner.high.y ≤ℤ outer.high.y
   pub high_z : inner.high.z ≤ℤ outer.high.z
 
-covered_place : (outer inner : Bounds) (v : Vec3) → Covers outer inner → IsInside inner v → IsInside outer v
+covered_place : (outer inner : Bounds) (v : Vec3) → Covers outer inner → IsInBounds inner v → IsInBounds outer v
 covered_place outer inner v c h = record {
   low_x = ≤ℤ_trans outer.low.x inner.low.x v.x c.low_x h.low_x;
   high_x = ≤ℤ_trans v.x inner.high.x outer.high.x h.high_x c.high_x;

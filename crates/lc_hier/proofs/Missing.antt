@@ -14,7 +14,7 @@ use Rattle.lc_geom.proofs.CrossingPoint.{inside, off_start}
 use Rattle.lc_hier.specs.declared.bounds.Bounds.{Bounds}
 use Rattle.lc_hier.specs.declared.slab.Slab.{Slab}
 use Rattle.lc_hier.specs.declared.beam.Beam.{Beam}
-use Rattle.lc_hier.specs.Boxes.{IsInside, Holds, place_of}
+use Rattle.lc_hier.specs.Boxes.{IsInBounds, Holds, place_of}
 use Rattle.lc_hier.specs.Passed.{IsPassed}
 use Rattle.lc_hier.specs.Slabs.{Serves}
 use Rattle.lc_hier.proofs.Window.{entry_of, exit_of, IsBy, IsPast, no_earlier, no_later, greater_by, lesser_past, past, in_order, last_past}
@@ -25,7 +25,7 @@ near_of beam box = int_max (int_max (int_max (entry_of beam.x box.low.x box.high
 abbrev pub far_of : Beam → Bounds → ℤ
 far_of beam box = int_min (int_min (int_min (exit_of beam.x box.low.x box.high.x) (exit_of beam.y box.low.y box.high.y)) (exit_of beam.z box.low.z box.high.z)) beam.last
 
-between : (box : Bounds) (v : Vec3) → IsInside box v → IsBetween (place_of box.low) (place_of box.high) v
+between : (box : Bounds) (v : Vec3) → IsInBounds box v → IsBetween (place_of box.low) (place_of box.high) v
 between box v h = record { low_x = h.low_x; high_x = h.high_x; low_y = h.low_y; high_y = h.high_y; low_z = h.low_z; high_z = h.high_z }
 
 -- on one axis, where the crossing divides the segment as s to r

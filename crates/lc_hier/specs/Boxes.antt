@@ -6,7 +6,7 @@ use Rattle.lc_hier.specs.declared.bounds.Corner.{Corner}
 use Rattle.lc_hier.specs.declared.bounds.Bounds.{Bounds}
 
 -- the place lies in the box, its faces included
-pub record IsInside (box : Bounds) (v : Vec3) : Type 0 where
+pub record IsInBounds (box : Bounds) (v : Vec3) : Type 0 where
   pub low_x : box.low.x ≤ℤ v.x
   pub high_x : v.x ≤ℤ box.high.x
   pub low_y : box.low.y ≤ℤ v.y
@@ -16,9 +16,9 @@ pub record IsInside (box : Bounds) (v : Vec3) : Type 0 where
 
 -- all corners of the triangle lie in the box, and so does the whole triangle
 pub record Holds (box : Bounds) (t : Tri) : Type 0 where
-  pub a : IsInside box t.a
-  pub b : IsInside box t.b
-  pub c : IsInside box t.c
+  pub a : IsInBounds box t.a
+  pub b : IsInBounds box t.b
+  pub c : IsInBounds box t.c
 
 -- the place of a corner, in numbers without limits
 abbrev pub place_of : Corner → Vec3

@@ -56,7 +56,7 @@ corner_bytes x y z = codes "v " ++ place_bytes x y z ++ codes "\n"
 unfoldable pub square_bytes : ℤ → ℤ → ℤ → List ℕ
 square_bytes x y z =
     corner_bytes x y z ++ corner_bytes (x +ℤ pos 1) y z ++ corner_bytes (x +ℤ pos 1) y
-        (z +ℤ pos 1) ++ corner_bytes x y (z +ℤ pos 1)
+    (z +ℤ pos 1) ++ corner_bytes x y (z +ℤ pos 1)
 
 -- the least x of box k, from -9 to 9
 abbrev pub box_x : ℕ → ℤ

@@ -8,7 +8,7 @@ use Rattle.std.proofs.Math.IntN.{*ℤ_comm}
 use Rattle.lc_algebra.proofs.Absolute.{abs-times, abs-sum3}
 use Rattle.lc_algebra.proofs.Order.{≤ℤ_trans, add-le3, between_products}
 use Rattle.lc_num.specs.Vectors.{Within, difference, dot, square}
-use Rattle.lc_num.specs.Boxes.{Ends, IsOrdered, IsInside, IsBoxWithin, CanBound, nearest, near2, greatest_dot, greatest_product, greatest_dot_of_boxes}
+use Rattle.lc_num.specs.Boxes.{SpanEnds, IsOrdered, IsInside, IsBoxWithin, CanBound, nearest, near2, greatest_dot, greatest_product, greatest_dot_of_boxes}
 use Rattle.lc_num.specs.declared.vectors.Vec3.{Vec3}
 use Rattle.lc_num.proofs.SquareLemmas.{square-is}
 use Rattle.lc_num.proofs.ExtremeLemmas.{max_small}
@@ -26,14 +26,14 @@ clamped_high lo hi x h = omega (arith, ints, clamps)
 clamped_least : (lo hi x p : ℤ) → lo ≤ℤ p → p ≤ℤ hi → unsigned_abs (clamped lo hi x -ℤ x) ≤ unsigned_abs (p -ℤ x)
 clamped_least lo hi x p low high = omega (arith, ints, clamps)
 
-pub nearest-inside : (x : Vec3) (box : Ends) → IsOrdered box.lo box.hi → IsInside box (nearest x box)
+pub nearest-inside : (x : Vec3) (box : SpanEnds) → IsOrdered box.lo box.hi → IsInside box (nearest x box)
 nearest-inside x box h = record {
   x = (clamped_low box.lo.x box.hi.x x.x, clamped_high box.lo.x box.hi.x x.x h.x);
   y = (clamped_low box.lo.y box.hi.y x.y, clamped_high box.lo.y box.hi.y x.y h.y);
   z = (clamped_low box.lo.z box.hi.z x.z, clamped_high box.lo.z box.hi.z x.z h.z);
 }
 
-pub near2-least : (x : Vec3) (box : Ends) (p : Vec3) → IsInside box p → near2 x box ≤ square (difference p x)
+pub near2-least : (x : Vec3) (box : SpanEnds) (p : Vec3) → IsInside box p → near2 x box ≤ square (difference p x)
 unfolding near2
 near2-least x box p h =
     let a = clamped_least box.lo.x box.hi.x x.x p.x h.x.0 h.x.1 in
@@ -45,7 +45,7 @@ near2-least x box p h =
 clamped_small : (lo hi x : ℤ) (m n : ℕ) → unsigned_abs x ≤ m → unsigned_abs lo ≤ n → unsigned_abs hi ≤ n → unsigned_abs (clamped lo hi x -ℤ x) ≤ m + n
 clamped_small lo hi x m n hx hl hh = omega (arith, ints, clamps)
 
-pub near2-small : (m n : ℕ) (x : Vec3) (box : Ends) → Within m x → IsBoxWithin n box → near2 x box ≤ 3 * ((m + n) * (m + n))
+pub near2-small : (m n : ℕ) (x : Vec3) (box : SpanEnds) → Within m x → IsBoxWithin n box → near2 x box ≤ 3 * ((m + n) * (m + n))
 unfolding near2
 near2-small m n x box hx hb =
     let a = clamped_small box.lo.x box.hi.x x.x m n hx.x hb.lo.x hb.hi.x in
@@ -55,7 +55,7 @@ near2-small m n x box hx hb =
 
 -- ---- the greatest dot product
 
-pub dot_below_greatest : (n b : Vec3) (box : Ends) → IsInside box b → dot n b ≤ℤ greatest_dot n box
+pub dot_below_greatest : (n b : Vec3) (box : SpanEnds) → IsInside box b → dot n b ≤ℤ greatest_dot n box
 unfolding dot greatest_dot
 dot_below_greatest n b box h =
     add-le3 (n.x *ℤ b.x) (n.y *ℤ b.y) (n.z *ℤ b.z) (int_max (n.x *ℤ box.lo.x) (n.x *ℤ box.hi.x)) (int_max (n.y *ℤ box.lo.y) (n.y *ℤ box.hi.y)) (int_max (n.z *ℤ box.lo.z) (n.z *ℤ box.hi.z))
@@ -63,7 +63,7 @@ dot_below_greatest n b box h =
     (between_products n.y box.lo.y box.hi.y b.y h.y.0 h.y.1)
     (between_products n.z box.lo.z box.hi.z b.z h.z.0 h.z.1)
 
-greatest_small_by : (n : Vec3) (box : Ends) (p q : ℕ) → Within p n → IsBoxWithin q box → unsigned_abs (greatest_dot n box) ≤ 3 * (p * q)
+greatest_small_by : (n : Vec3) (box : SpanEnds) (p q : ℕ) → Within p n → IsBoxWithin q box → unsigned_abs (greatest_dot n box) ≤ 3 * (p * q)
 unfolding greatest_dot
 greatest_small_by n box p q hn hb =
     let x = max_small (n.x *ℤ box.lo.x) (n.x *ℤ box.hi.x) (p * q) (abs-times n.x box.lo.x p q hn.x hb.lo.x) (abs-times n.x box.hi.x p q hn.x hb.hi.x) in
@@ -71,7 +71,7 @@ greatest_small_by n box p q hn hb =
     let z = max_small (n.z *ℤ box.lo.z) (n.z *ℤ box.hi.z) (p * q) (abs-times n.z box.lo.z p q hn.z hb.lo.z) (abs-times n.z box.hi.z p q hn.z hb.hi.z) in
     abs-sum3 (int_max (n.x *ℤ box.lo.x) (n.x *ℤ box.hi.x)) (int_max (n.y *ℤ box.lo.y) (n.y *ℤ box.hi.y)) (int_max (n.z *ℤ box.lo.z) (n.z *ℤ box.hi.z)) (p * q) x y z
 
-pub greatest_small : (n : Vec3) (box : Ends) → CanBound n box → unsigned_abs (greatest_dot n box) ≤ 3 * (16384 * 100_100_000)
+pub greatest_small : (n : Vec3) (box : SpanEnds) → CanBound n box → unsigned_abs (greatest_dot n box) ≤ 3 * (16384 * 100_100_000)
 greatest_small n box h =
     ⊎_elim
     (λ (w : Within 16384 n × IsBoxWithin 100_100_000 box). greatest_small_by n box 16384 100_100_000 w.0 w.1)
@@ -83,19 +83,19 @@ greatest_small n box h =
 abbrev pub AreSmall : ℤ → ℤ → ℤ → Type 0
 AreSmall n lo hi = (unsigned_abs n * unsigned_abs lo ≤ 16384 * 100_100_000) × (unsigned_abs n * unsigned_abs hi ≤ 16384 * 100_100_000)
 
-pub record EndsAreSmall (n : Vec3) (box : Ends) : Type 0 where
+pub record EndsAreSmall (n : Vec3) (box : SpanEnds) : Type 0 where
   pub x : AreSmall n.x box.lo.x box.hi.x
   pub y : AreSmall n.y box.lo.y box.hi.y
   pub z : AreSmall n.z box.lo.z box.hi.z
 
-small_by : (n : Vec3) (box : Ends) (p q : ℕ) → p * q ≤ 16384 * 100_100_000 → Within p n → IsBoxWithin q box → EndsAreSmall n box
+small_by : (n : Vec3) (box : SpanEnds) (p q : ℕ) → p * q ≤ 16384 * 100_100_000 → Within p n → IsBoxWithin q box → EndsAreSmall n box
 small_by n box p q small hn hb = record {
   x = (omega (arith, mul-le _ _ p q hn.x hb.lo.x), omega (arith, mul-le _ _ p q hn.x hb.hi.x));
   y = (omega (arith, mul-le _ _ p q hn.y hb.lo.y), omega (arith, mul-le _ _ p q hn.y hb.hi.y));
   z = (omega (arith, mul-le _ _ p q hn.z hb.lo.z), omega (arith, mul-le _ _ p q hn.z hb.hi.z));
 }
 
-pub ends_small : (n : Vec3) (box : Ends) → CanBound n box → EndsAreSmall n box
+pub ends_small : (n : Vec3) (box : SpanEnds) → CanBound n box → EndsAreSmall n box
 ends_small n box h =
     ⊎_elim
     (λ (w : Within 16384 n × IsBoxWithin 100_100_000 box). small_by n box 16384 100_100_000 (omega arith) w.0 w.1)
@@ -116,7 +116,7 @@ between_four_products a_lo a_hi b_lo b_hi a b ha hb =
     (between_products a_lo b_lo b_hi b hb.0 hb.1)
     (between_products a_hi b_lo b_hi b hb.0 hb.1))
 
-pub dot_below_greatest_of_boxes : (m d : Vec3) (a b : Ends) → IsInside a m → IsInside b d → dot m d ≤ℤ greatest_dot_of_boxes a b
+pub dot_below_greatest_of_boxes : (m d : Vec3) (a b : SpanEnds) → IsInside a m → IsInside b d → dot m d ≤ℤ greatest_dot_of_boxes a b
 unfolding dot greatest_dot_of_boxes
 dot_below_greatest_of_boxes m d a b hm hd =
     add-le3 (m.x *ℤ d.x) (m.y *ℤ d.y) (m.z *ℤ d.z) (greatest_product a.lo.x a.hi.x b.lo.x b.hi.x) (greatest_product a.lo.y a.hi.y b.lo.y b.hi.y) (greatest_product a.lo.z a.hi.z b.lo.z b.hi.z)

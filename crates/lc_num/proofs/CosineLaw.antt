@@ -10,7 +10,7 @@ use Rattle.lc_algebra.specs.Roots.{ratio_root}
 use Rattle.lc_algebra.proofs.Roots.{ratio_root-rises, ratio_root-at_most}
 use Rattle.lc_num.specs.Vectors.{dot, square}
 use Rattle.lc_num.specs.Cosines.{cos16, cosine_at_most}
-use Rattle.lc_num.specs.Boxes.{Ends, IsInside, greatest_dot, greatest_dot_of_boxes, cos_top, emit_top}
+use Rattle.lc_num.specs.Boxes.{SpanEnds, IsInside, greatest_dot, greatest_dot_of_boxes, cos_top, emit_top}
 use Rattle.lc_num.specs.declared.vectors.Vec3.{Vec3}
 use Rattle.lc_num.proofs.SquareLemmas.{schwarz}
 use Rattle.lc_num.proofs.ScaledLemmas.{eqb_no}
@@ -57,12 +57,12 @@ cos16_below n b top squares below least =
     (λ (no : int_lt (pos 0) (dot n b) ≡ false). rw no (omega arith))
     (cases_Bool (int_lt (pos 0) (dot n b)))
 
-pub cos16_below_cos_top : (n b : Vec3) (box : Ends) (least : ℕ) → IsInside box b → least ≤ square b → cos16 n b ≤ cos_top n box least
+pub cos16_below_cos_top : (n b : Vec3) (box : SpanEnds) (least : ℕ) → IsInside box b → least ≤ square b → cos16 n b ≤ cos_top n box least
 unfolding cos_top
 cos16_below_cos_top n b box least inside small =
     cos16_below n b (greatest_dot n box) (square n * least) (dot_below_greatest n b box inside) (mul-le-mul_left (square n) small)
 
-pub cos16_below_emit_top : (m d : Vec3) (normals : Ends) (least_n : ℕ) (offsets : Ends) (least_d : ℕ)
+pub cos16_below_emit_top : (m d : Vec3) (normals : SpanEnds) (least_n : ℕ) (offsets : SpanEnds) (least_d : ℕ)
     → IsInside normals m → IsInside offsets d → least_n ≤ square m → least_d ≤ square d → cos16 m d ≤ emit_top normals least_n offsets least_d
 unfolding emit_top
 cos16_below_emit_top m d normals least_n offsets least_d hm hd small_n small_d =
@@ -80,10 +80,10 @@ cosine_at_most-small along squares =
     (λ (no : int_lt (pos 0) along ≡ false). rw no (omega arith))
     (cases_Bool (int_lt (pos 0) along))
 
-pub cos_top-small : (n : Vec3) (box : Ends) (least : ℕ) → cos_top n box least ≤ 65536
+pub cos_top-small : (n : Vec3) (box : SpanEnds) (least : ℕ) → cos_top n box least ≤ 65536
 unfolding cos_top
 cos_top-small n box least = cosine_at_most-small (greatest_dot n box) (square n * least)
 
-pub emit_top-small : (normals : Ends) (least_n : ℕ) (offsets : Ends) (least_d : ℕ) → emit_top normals least_n offsets least_d ≤ 65536
+pub emit_top-small : (normals : SpanEnds) (least_n : ℕ) (offsets : SpanEnds) (least_d : ℕ) → emit_top normals least_n offsets least_d ≤ 65536
 unfolding emit_top
 emit_top-small normals least_n offsets least_d = cosine_at_most-small (greatest_dot_of_boxes normals offsets) (least_n * least_d)

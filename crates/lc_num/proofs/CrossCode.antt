@@ -9,7 +9,7 @@ use Rattle.std.proofs.lemmas.Bool.{cases_Bool}
 use Rattle.lc_algebra.proofs.Machine.{read, read_small}
 use Rattle.lc_algebra.proofs.Absolute.{abs-minus, abs-times}
 use Rattle.lc_num.specs.Vectors.{Within}
-use Rattle.lc_num.specs.Boxes.{Ends, IsBoxWithin, CanBound, greatest_product}
+use Rattle.lc_num.specs.Boxes.{SpanEnds, IsBoxWithin, CanBound, greatest_product}
 use Rattle.lc_num.specs.Crosses.{least_square, least_product, least_component, least_cross}
 use Rattle.lc_num.specs.Cosines.{cosine_at_most}
 use Rattle.lc_num.specs.declared.vectors.Vec3.{Vec3}
@@ -154,7 +154,7 @@ cross_small_by n v p q small hn hv = record {
   zy = omega (arith, mul-le _ _ p q hn.z hv.y);
 }
 
-pub crosses_small : (n : Vec3) (box : Ends) → CanBound n box → CrossIsSmall n box.lo × CrossIsSmall n box.hi
+pub crosses_small : (n : Vec3) (box : SpanEnds) → CanBound n box → CrossIsSmall n box.lo × CrossIsSmall n box.hi
 crosses_small n box h =
     ⊎_elim
     (λ (w : Within 16384 n × IsBoxWithin 100_100_000 box). (

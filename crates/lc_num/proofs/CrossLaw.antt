@@ -15,7 +15,7 @@ use Rattle.lc_algebra.proofs.Absolute.{square_is_pos}
 use Rattle.lc_algebra.proofs.SixNumbers.{lagrange}
 use Rattle.lc_num.specs.Vectors.{dot, square, cross}
 use Rattle.lc_num.specs.Cosines.{cos16, cosine_at_most}
-use Rattle.lc_num.specs.Boxes.{Ends, IsInside, greatest_dot, greatest_product, greatest_dot_of_boxes, cos_top, emit_top}
+use Rattle.lc_num.specs.Boxes.{SpanEnds, IsInside, greatest_dot, greatest_product, greatest_dot_of_boxes, cos_top, emit_top}
 use Rattle.lc_num.specs.Crosses.{least_square, least_product, least_component, least_cross, cosine_beside, cos_top2, emit_top2}
 use Rattle.lc_num.specs.declared.vectors.Vec3.{Vec3}
 use Rattle.lc_num.proofs.SquareLemmas.{square-is, dot-self}
@@ -83,7 +83,7 @@ least_component-least a_lo a_hi d_lo d_hi b_lo b_hi c_lo c_hi a d b c ha hd hb h
     (above_four_products b_lo b_hi c_lo c_hi b c hb hc) (between_four_products b_lo b_hi c_lo c_hi b c hb hc) in
     least_square-least _ _ (a *ℤ d -ℤ b *ℤ c) ends.0 ends.1
 
-pub least_cross-least : (a b : Ends) (m d : Vec3) → IsInside a m → IsInside b d → least_cross a b ≤ square (cross m d)
+pub least_cross-least : (a b : SpanEnds) (m d : Vec3) → IsInside a m → IsInside b d → least_cross a b ≤ square (cross m d)
 unfolding least_cross cross
 least_cross-least a b m d hm hd =
     let x = least_component-least a.lo.y a.hi.y b.lo.z b.hi.z a.lo.z a.hi.z b.lo.y b.hi.y m.y d.z m.z d.y hm.y hd.z
@@ -161,7 +161,7 @@ own_inside n = record {
   z = (omega (arith, ints), omega (arith, ints));
 }
 
-pub cos16_below_cos_top2 : (n b : Vec3) (box : Ends) (least : ℕ) → IsInside box b → least ≤ square b
+pub cos16_below_cos_top2 : (n b : Vec3) (box : SpanEnds) (least : ℕ) → IsInside box b → least ≤ square b
     → cos16 n b ≤ cos_top2 n box least
 unfolding cos_top2
 cos16_below_cos_top2 n b box least inside small =
@@ -169,7 +169,7 @@ cos16_below_cos_top2 n b box least inside small =
     (cos16_below_beside n b (greatest_dot n box) (least_cross (record { lo = n; hi = n }) box)
     (dot_below_greatest n b box inside) (least_cross-least (record { lo = n; hi = n }) box n b (own_inside n) inside))
 
-pub cos16_below_emit_top2 : (m d : Vec3) (normals : Ends) (least_n : ℕ) (offsets : Ends) (least_d : ℕ)
+pub cos16_below_emit_top2 : (m d : Vec3) (normals : SpanEnds) (least_n : ℕ) (offsets : SpanEnds) (least_d : ℕ)
     → IsInside normals m → IsInside offsets d → least_n ≤ square m → least_d ≤ square d
     → cos16 m d ≤ emit_top2 normals least_n offsets least_d
 unfolding emit_top2
@@ -178,20 +178,20 @@ cos16_below_emit_top2 m d normals least_n offsets least_d hm hd small_n small_d 
     (cos16_below_beside m d (greatest_dot_of_boxes normals offsets) (least_cross normals offsets)
     (dot_below_greatest_of_boxes m d normals offsets hm hd) (least_cross-least normals offsets m d hm hd))
 
-pub cos_top2-below : (n : Vec3) (box : Ends) (least : ℕ) → cos_top2 n box least ≤ cos_top n box least
+pub cos_top2-below : (n : Vec3) (box : SpanEnds) (least : ℕ) → cos_top2 n box least ≤ cos_top n box least
 unfolding cos_top2
 cos_top2-below n box least = min_small (cos_top n box least) _ (cos_top n box least) (omega arith)
 
-pub emit_top2-below : (normals : Ends) (least_n : ℕ) (offsets : Ends) (least_d : ℕ)
+pub emit_top2-below : (normals : SpanEnds) (least_n : ℕ) (offsets : SpanEnds) (least_d : ℕ)
     → emit_top2 normals least_n offsets least_d ≤ emit_top normals least_n offsets least_d
 unfolding emit_top2
 emit_top2-below normals least_n offsets least_d =
     min_small (emit_top normals least_n offsets least_d) _ (emit_top normals least_n offsets least_d) (omega arith)
 
-pub cos_top2-small : (n : Vec3) (box : Ends) (least : ℕ) → cos_top2 n box least ≤ 65536
+pub cos_top2-small : (n : Vec3) (box : SpanEnds) (least : ℕ) → cos_top2 n box least ≤ 65536
 cos_top2-small n box least = le_trans (cos_top2-below n box least) (cos_top-small n box least)
 
-pub emit_top2-small : (normals : Ends) (least_n : ℕ) (offsets : Ends) (least_d : ℕ)
+pub emit_top2-small : (normals : SpanEnds) (least_n : ℕ) (offsets : SpanEnds) (least_d : ℕ)
     → emit_top2 normals least_n offsets least_d ≤ 65536
 emit_top2-small normals least_n offsets least_d =
     le_trans (emit_top2-below normals least_n offsets least_d) (emit_top-small normals least_n offsets least_d)

@@ -34,5 +34,5 @@ unfoldable pub cosine_at_most : ℤ → ℕ → ℕ
 cosine_at_most along squares =
     if int_lt (pos 0) along
     then (if squares == 0 then 65536 else min 65536
-        (ratio_root squares (2 ^ 32 * (unsigned_abs along * unsigned_abs along))))
+    (ratio_root squares (2 ^ 32 * (unsigned_abs along * unsigned_abs along))))
     else 0

@@ -4,7 +4,7 @@ use Rattle.std.specs.Prelude.{ℕ, ◌+◌, ◌*◌, ◌&&◌, min, if◌then◌
 use Rattle.std.specs.Int.{int_min}
 use Rattle.std.specs.Int.RustNames.{int_le}
 use Rattle.lc_num.specs.Cosines.{cosine_at_most}
-use Rattle.lc_num.specs.Boxes.{Ends, greatest_dot, greatest_product, greatest_dot_of_boxes, cos_top, emit_top}
+use Rattle.lc_num.specs.Boxes.{SpanEnds, greatest_dot, greatest_product, greatest_dot_of_boxes, cos_top, emit_top}
 use Rattle.lc_num.specs.declared.vectors.Vec3.{Vec3}
 
 -- the least square of a number from `lo` to `hi`: 0 where 0 is one of them, and else that of the nearer end
@@ -29,7 +29,7 @@ least_component a_lo a_hi d_lo d_hi b_lo b_hi c_lo c_hi =
     (greatest_product a_lo a_hi d_lo d_hi -ℤ least_product b_lo b_hi c_lo c_hi)
 
 -- at most the squared length of the cross product of any vector of the one box with any of the other, axis by axis
-unfoldable pub least_cross : Ends → Ends → ℕ
+unfoldable pub least_cross : SpanEnds → SpanEnds → ℕ
 least_cross a b =
     least_component a.lo.y a.hi.y b.lo.z b.hi.z a.lo.z a.hi.z b.lo.y b.hi.y
     + least_component a.lo.z a.hi.z b.lo.x b.hi.x a.lo.x a.hi.x b.lo.z b.hi.z
@@ -41,12 +41,12 @@ abbrev pub cosine_beside : ℤ → ℕ → ℕ
 cosine_beside along across = cosine_at_most along (unsigned_abs along * unsigned_abs along + across)
 
 -- the lesser of `cos_top` and of the cosine that the least cross product gives
-unfoldable pub cos_top2 : Vec3 → Ends → ℕ → ℕ
+unfoldable pub cos_top2 : Vec3 → SpanEnds → ℕ → ℕ
 cos_top2 n box least =
     min (cos_top n box least) (cosine_beside (greatest_dot n box) (least_cross (record { lo = n; hi = n }) box))
 
 -- the lesser of `emit_top` and of the cosine that the least cross product gives
-unfoldable pub emit_top2 : Ends → ℕ → Ends → ℕ → ℕ
+unfoldable pub emit_top2 : SpanEnds → ℕ → SpanEnds → ℕ → ℕ
 emit_top2 normals least_n offsets least_d =
     min (emit_top normals least_n offsets least_d)
-        (cosine_beside (greatest_dot_of_boxes normals offsets) (least_cross normals offsets))
+    (cosine_beside (greatest_dot_of_boxes normals offsets) (least_cross normals offsets))

@@ -18,9 +18,9 @@ pub struct Span3 {
 }
 
 impl Model for Span3 {
-    ghost use Rattle.lc_num.specs.Boxes.{Ends, IsOrdered};
+    ghost use Rattle.lc_num.specs.Boxes.{SpanEnds, IsOrdered};
 
-    ghost Value = { Ends };
+    ghost Value = { SpanEnds };
 
     ghost view = { λ b. record { lo = b.lo; hi = b.hi } };
 

@@ -104,10 +104,10 @@ no_key (p ∷ ps) h =
     let rest : (bound_sum red ps ≡ 0) × (bound_sum green ps ≡ 0) × (bound_sum blue ps ≡ 0) = no_key ps (omega arith) in
     (omega (arith, bound-cons red p ps, rest.0), omega (arith, bound-cons green p ps, rest.1), omega (arith, bound-cons blue p ps, rest.2))
 
-none_within : (c : Rgb → ℕ) (permille : ℕ) (cut : List Placed) → bound_sum c cut ≡ 0 → is_within c permille cut ≡ true
+none_within : (c : Rgb → ℕ) (permille : ℕ) (cut : List Placed) → bound_sum c cut ≡ 0 → is_within permille (bound_sum c cut) (est_sum c cut) ≡ true
 none_within c permille cut h = grind (arith, nat_tests)
 
-stops_within : (size permille : ℕ) (cut : List Placed) → is_within red permille cut ≡ true → is_within green permille cut ≡ true → is_within blue permille cut ≡ true → stops size permille cut ≡ true
+stops_within : (size permille : ℕ) (cut : List Placed) → is_within permille (bound_sum red cut) (est_sum red cut) ≡ true → is_within permille (bound_sum green cut) (est_sum green cut) ≡ true → is_within permille (bound_sum blue cut) (est_sum blue cut) ≡ true → stops size permille cut ≡ true
 stops_within size permille cut hr hg hb = rw (hr, hg, hb) (elim (length cut == size) as (λ v. (v || true) ≡ true) [ true ↦ refl | false ↦ refl ])
 
 -- a cut that does not stop has a node of positive key
@@ -216,7 +216,7 @@ chosen_stops size permille roots few =
 
 within_of_stops : (size permille : ℕ) (cut : List Placed) → stops size permille cut ≡ true → (length cut ≡ size) ⊎ IsFraction permille (answer_of cut)
 within_of_stops size permille cut h =
-    elim (length cut == size) as (λ v. length cut == size ≡ v → (v || ((is_within red permille cut && is_within green permille cut) && is_within blue permille cut)) ≡ true → (length cut ≡ size) ⊎ IsFraction permille (answer_of cut)) [
+    elim (length cut == size) as (λ v. length cut == size ≡ v → (v || ((is_within permille (bound_sum red cut) (est_sum red cut) && is_within permille (bound_sum green cut) (est_sum green cut)) && is_within permille (bound_sum blue cut) (est_sum blue cut))) ≡ true → (length cut ≡ size) ⊎ IsFraction permille (answer_of cut)) [
       | true ↦ (λ e t. inl (grind (arith, nat_tests)))
       | false ↦ (λ e t. inr (record { red = grind (arith, nat_tests); green = grind (arith, nat_tests); blue = grind (arith, nat_tests) }))
     ] refl h

@@ -7,8 +7,8 @@ use Rattle.lc_rated.specs.declared.light.NodeLight.{NodeLight}
 use Rattle.lc_rated.specs.declared.answer.Answer.{Answer}
 use Rattle.lc_rated.specs.declared.kind.LightKind.{LightKind}
 use Rattle.lc_rated.specs.LitTrees.{Trees}
-use Rattle.lc_rated.specs.Cuts.{Placed, roots_of, cut_at, stops, refinements, answer, answer_of, AreLimited}
-use Rattle.lc_rated.specs.Nodes.{NodesParts, entry_of, IsCutOf, IsSmall, sums_stop}
+use Rattle.lc_rated.specs.Cuts.{Placed, roots_of, cut_at, stops, refinements, answer, answer_of, AreLimited, is_stop}
+use Rattle.lc_rated.specs.Nodes.{NodesParts, entry_of, IsCutOf, IsSmall}
 use Rattle.lc_rated.proofs.CutSequence.{Going, size_within, size_differs, least_is}
 use Rattle.lc_rated.proofs.CutLimits.{totals_small}
 use Rattle.lc_rated.proofs.NodeSteps.{length-map}
@@ -40,9 +40,9 @@ module _ {K : Type 0} (keeps : LightKind → ℕ → K → Type 0) (trees : Tree
   now_length = length_permutation (map entry_of now) nodes.entries h.holds.entries ∙ length-map entry_of now
 
   -- the answer of the code's test is that of the cut
-  pub now_test : (answer : Bool) (size permille : ℕ) → answer ≡ sums_stop size permille (length nodes.entries) nodes.sums → stops size permille now ≡ answer
+  pub now_test : (answer : Bool) (size permille : ℕ) → answer ≡ is_stop size permille (length nodes.entries) nodes.sums → stops size permille now ≡ answer
   now_test answer size permille is =
-      sym (is ∙ ap (λ n. sums_stop size permille n nodes.sums) now_length ∙ ap (sums_stop size permille (length now)) h.holds.sums)
+      sym (is ∙ ap (λ n. is_stop size permille n nodes.sums) now_length ∙ ap (is_stop size permille (length now)) h.holds.sums)
 
   module _ (size permille : ℕ) (few : length (roots_of trees) ≤ size) (go : Going size permille (roots_of trees) count) where
     pub now_within : length nodes.entries ≤ size

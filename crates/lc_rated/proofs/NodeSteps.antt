@@ -1,5 +1,5 @@
 -- The first entry stands for the first node of greatest key, and a step of the loop is a step of the sequence.
-use Rattle.std.proofs.Common.{◌≡◌, ℕ, zero, suc, ◌+◌, ◌*◌, ◌<◌, ◌≤◌, ◌^◌, inl, inr, List, [], ◌∷◌, ◌++◌, map, length, take, drop, slice_get, sum_by, Some, All, Contains, IsPermutation, refl, true, false, ap, sym, subst, ◌∙◌, ◌==◌, cond, arith, add-one, length-append, length-take, length-drop}
+use Rattle.std.proofs.Common.{◌≡◌, ℕ, zero, suc, ◌+◌, ◌*◌, ◌<◌, ◌≤◌, ◌^◌, inl, inr, List, [], ◌∷◌, ◌++◌, map, length, take, drop, slice_get, sum_by, Some, All, Contains, IsPermutation, refl, true, false, ap, sym, subst, ◌∙◌, ◌==◌, cond, arith, add-one}
 use Rattle.std.proofs.lemmas.Bool.Decides.{nat_tests}
 use Rattle.std.proofs.lemmas.List.{map-append, take-map, drop-map}
 use Rattle.std.proofs.lemmas.List.Elements.{All-contains}
@@ -12,8 +12,8 @@ use Rattle.lc_heap.specs.declared.entry.Entry.{Entry}
 use Rattle.lc_rated.specs.declared.light.NodeLight.{NodeLight}
 use Rattle.lc_rated.specs.declared.kind.LightKind.{LightKind}
 use Rattle.lc_rated.specs.LitTrees.{LitTree, lit_leaf, lit_fork, light_of, leaf_count, kind_number, red, green, blue, Trees, tree_for, find}
-use Rattle.lc_rated.specs.Cuts.{Placed, key_of, greatest_key, parts_of, replaced, refined, roots_of, cut_at, est_sum, bound_sum, totals_of, AreLimited, IsBefore, IsInOrder}
-use Rattle.lc_rated.specs.Nodes.{entry_of, light_key, IsSmall, IsMoved, CanMove}
+use Rattle.lc_rated.specs.Cuts.{Placed, key_of, greatest_key, parts_of, replaced, refined, roots_of, cut_at, est_sum, bound_sum, totals_of, AreLimited, IsBefore, IsInOrder, light_key}
+use Rattle.lc_rated.specs.Nodes.{entry_of, IsSmall, IsMoved, CanMove}
 use Rattle.lc_rated.proofs.CutSums.{EachNode-at}
 use Rattle.lc_rated.proofs.CutLimits.{totals_small}
 use Rattle.lc_rated.proofs.CutOrder.{cut_in_order}

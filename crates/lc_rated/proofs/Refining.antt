@@ -11,9 +11,9 @@ use Rattle.lc_rated.specs.declared.lighting.Split.{Split}
 use Rattle.lc_rated.specs.declared.slot.Slot.{Slot}
 use Rattle.lc_rated.specs.declared.kind.LightKind.{LightKind}
 use Rattle.lc_rated.specs.LitTrees.{LitTree, lit_fork, light_of, leaf_count, Trees, find, kind_number}
-use Rattle.lc_rated.specs.Cuts.{Placed, EachNode, IsInOrder, greatest_key, refined, roots_of, cut_at, totals_of, AreLimited}
+use Rattle.lc_rated.specs.Cuts.{Placed, EachNode, IsInOrder, greatest_key, refined, roots_of, cut_at, totals_of, AreLimited, light_key}
 use Rattle.lc_rated.specs.Finding.{IsFound, IsSplit}
-use Rattle.lc_rated.specs.Nodes.{NodesParts, entry_of, light_key, made_entry, made_slot, place_of, slot_of, cut_now, Holds, IsKept, IsCutOf, IsReplaced, IsMoved, CanMove}
+use Rattle.lc_rated.specs.Nodes.{NodesParts, entry_of, made_entry, made_slot, place_of, slot_of, cut_now, Holds, IsKept, IsCutOf, IsReplaced, IsMoved, CanMove}
 use Rattle.lc_rated.proofs.CutSums.{EachNode-at}
 use Rattle.lc_rated.proofs.CutOrder.{cut_in_order}
 use Rattle.lc_rated.proofs.Permuting.{IsPermutation-two}

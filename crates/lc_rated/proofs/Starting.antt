@@ -10,9 +10,9 @@ use Rattle.lc_rated.specs.declared.lighting.Found.{Found}
 use Rattle.lc_rated.specs.declared.kind.LightKind.{LightKind}
 use Rattle.lc_rated.specs.declared.kind.LightKind.TheVariants as kind
 use Rattle.lc_rated.specs.LitTrees.{LitTree, light_of, kind_number, Trees, tree_for}
-use Rattle.lc_rated.specs.Cuts.{Placed, EachNode, root_of, roots_of, cut_at, totals_of, AreLimited}
+use Rattle.lc_rated.specs.Cuts.{Placed, EachNode, root_of, roots_of, cut_at, totals_of, AreLimited, light_key}
 use Rattle.lc_rated.specs.Finding.{IsFound, IsRoot}
-use Rattle.lc_rated.specs.Nodes.{NodesParts, entry_of, light_key, lights_plus, made_entry, made_slot, place_of, roots_before, Holds, IsAdded, IsCutOf, IsKept, IsSmall}
+use Rattle.lc_rated.specs.Nodes.{NodesParts, entry_of, lights_plus, made_entry, made_slot, place_of, roots_before, Holds, IsAdded, IsCutOf, IsKept, IsSmall}
 use Rattle.lc_rated.proofs.CutSums.{EachNode-append}
 use Rattle.lc_rated.proofs.CutSequence.{root_few}
 use Rattle.lc_rated.proofs.CutLimits.{totals_small}

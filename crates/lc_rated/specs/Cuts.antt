@@ -13,19 +13,24 @@ pub record Placed : Type 0 where
   pub node : ℕ
   pub tree : LitTree
 
--- the sum of the three channels of its bound
+-- the sum of the three channels of a bound
+abbrev pub light_key : NodeLight → ℕ
+light_key light = light.bound.r + light.bound.g + light.bound.b
+
 abbrev pub key_of : Placed → ℕ
-key_of p = (light_of p.tree).bound.r + (light_of p.tree).bound.g + (light_of p.tree).bound.b
+key_of p = light_key (light_of p.tree)
 
 abbrev pub greatest_key : List Placed → ℕ
 greatest_key [] = 0
 greatest_key (p ∷ ps) = max (key_of p) (greatest_key ps)
 
--- the two children of a node; a lit_leaf has none, and stays
+-- the two children of a node; a leaf has none, and stays
 abbrev pub parts_of : LightKind → ℕ → LitTree → List Placed
 parts_of kind node (lit_leaf est) = record { kind = kind; node = node; tree = lit_leaf est } ∷ []
 parts_of kind node (lit_fork light left right) =
-    record { kind = kind; node = node + 1; tree = left } ∷ record { kind = kind; node = node + 2 * leaf_count left; tree = right } ∷ []
+    record { kind = kind; node = node + 1; tree = left }
+    ∷ record { kind = kind; node = node + 2 * leaf_count left; tree = right }
+    ∷ []
 
 -- the first node of this key gives way to its children
 abbrev pub replaced : ℕ → List Placed → List Placed
@@ -66,16 +71,22 @@ totals_of cut = record {
   bound = record { r = bound_sum red cut; g = bound_sum green cut; b = bound_sum blue cut };
 }
 
-abbrev pub is_within : (Rgb → ℕ) → ℕ → List Placed → Bool
-is_within c permille cut = nat_le (1000 * bound_sum c cut) (permille * est_sum c cut)
+-- a bound is within the permille of an estimate
+abbrev pub is_within : ℕ → ℕ → ℕ → Bool
+is_within permille bound est = nat_le (1000 * bound) (permille * est)
 
--- a cut of the greatest size stops, and one whose bounds are within the permille of the estimates in each channel
+-- a cut of so many nodes and of these totals stops: it has the greatest size, or its bounds are within the permille of its
+-- estimates in each channel
+abbrev pub is_stop : ℕ → ℕ → ℕ → NodeLight → Bool
+is_stop size permille count totals =
+    (count == size)
+    || ((is_within permille totals.bound.r totals.est.r && is_within permille totals.bound.g totals.est.g)
+    && is_within permille totals.bound.b totals.est.b)
+
 abbrev pub stops : ℕ → ℕ → List Placed → Bool
-stops size permille cut =
-    (length cut == size) ||
-        ((is_within red permille cut && is_within green permille cut) && is_within blue permille cut)
+stops size permille cut = is_stop size permille (length cut) (totals_of cut)
 
--- the least_passing number below n of which the test holds, or n
+-- the least number below n of which the test holds, or n
 abbrev pub least_passing : ℕ → (ℕ → Bool) → ℕ
 least_passing zero test = 0
 least_passing (suc n) test = if test 0 then 0 else suc (least_passing n (λ k. test (suc k)))
@@ -104,8 +115,7 @@ answer size permille trees = answer_of (chosen size permille (roots_of trees))
 -- the estimates of all leaves
 abbrev pub full_light : Trees → Rgb
 full_light trees =
-    record { r = full_sum red (roots_of trees); g = full_sum green (roots_of trees); b = full_sum blue
-        (roots_of trees) }
+    record { r = full_sum red (roots_of trees); g = full_sum green (roots_of trees); b = full_sum blue (roots_of trees) }
 
 -- how far two numbers are from one another
 abbrev pub apart : ℕ → ℕ → ℕ

@@ -22,4 +22,4 @@ module _ {K : Type 0} where
   IsSplit keeps n (lit_leaf est) r = r ≡ None
   IsSplit keeps n (lit_fork light left right) r =
       IsSomeAnd r (λ s. (s.est ≡ light.est) × IsFound keeps (n + 1) left s.left
-          × IsFound keeps (n + 2 * leaf_count left) right s.right)
+      × IsFound keeps (n + 2 * leaf_count left) right s.right)

@@ -44,14 +44,14 @@ abbrev pub IsBounded : (Rgb → ℕ) → LitTree → Type 0
 IsBounded c (lit_leaf est) = Unit {0}
 IsBounded c (lit_fork light left right) =
     (c light.est ≤ (full_of c left + full_of c right) + c light.bound)
-        × (full_of c left + full_of c right ≤ c light.est + c light.bound) × IsBounded c left × IsBounded c right
+    × (full_of c left + full_of c right ≤ c light.est + c light.bound) × IsBounded c left × IsBounded c right
 
 -- in a channel, at every node, estimate and bound are at most `most` for each lit_leaf below
 abbrev pub IsLimited : (Rgb → ℕ) → ℕ → LitTree → Type 0
 IsLimited c most (lit_leaf est) = c est ≤ most
 IsLimited c most (lit_fork light left right) =
     (c light.est ≤ most * (leaf_count left + leaf_count right))
-        × (c light.bound ≤ most * (leaf_count left + leaf_count right)) × IsLimited c most left × IsLimited c most right
+    × (c light.bound ≤ most * (leaf_count left + leaf_count right)) × IsLimited c most left × IsLimited c most right
 
 -- the lit trees of the three kinds of light, each of them or none
 pub record Trees : Type 0 where

@@ -1,5 +1,5 @@
 -- The nodes of a cut as the loop holds them.
-use Rattle.std.specs.Prelude.{◌≡◌, ℕ, ◌+◌, ◌-◌, ◌*◌, ◌<◌, ◌≤◌, ◌^◌, ◌==◌, nat_le, ◌&&◌, ◌||◌, Bool, List, [], length, map, Option, Some, slice_get, slice_set, IsPermutation, Contains, ◌∷◌, ◌++◌, refl}
+use Rattle.std.specs.Prelude.{◌≡◌, ℕ, ◌+◌, ◌-◌, ◌*◌, ◌<◌, ◌≤◌, ◌^◌, List, [], length, map, Option, Some, slice_get, slice_set, IsPermutation, Contains, ◌∷◌, ◌++◌, refl}
 use Rattle.std.specs.Coded.{Coded, code_by, coded×, coded_ℕ, coded_list}
 use Rattle.lc_num.specs.Channels.{black, plus}
 use Rattle.lc_num.specs.declared.channels.Rgb.{Rgb}
@@ -14,7 +14,7 @@ use Rattle.lc_rated.specs.contracts.light.NodeLight as lights
 use Rattle.lc_rated.specs.declared.lighting.Found.{Found}
 use Rattle.lc_rated.specs.declared.slot.Slot.{Slot}
 use Rattle.lc_rated.specs.LitTrees.{Trees, light_of, kind_number}
-use Rattle.lc_rated.specs.Cuts.{Placed, EachNode, cut_at, root_of, totals_of}
+use Rattle.lc_rated.specs.Cuts.{Placed, EachNode, cut_at, light_key, root_of, totals_of}
 
 -- the entries of the heap, for each kind and number of a node the number of its slot, what the slots keep, the sums
 -- over the nodes, and how many nodes there is room for
@@ -30,20 +30,16 @@ module _ {K : Type 0} where
   abbrev pub coded_slot : Coded K → Coded (Slot K)
   coded_slot c =
       code_by (K × Rgb) (coded× c colours.the_row.coded)
-          (λ s. (s.kept, s.bound)) (λ p. record { kept = p.0; bound = p.1 }) (λ _. refl)
+      (λ s. (s.kept, s.bound)) (λ p. record { kept = p.0; bound = p.1 }) (λ _. refl)
 
   abbrev pub coded_parts : Coded K → Coded (NodesParts K)
   coded_parts c =
       code_by (List Entry × (List ℕ × (List (Slot K) × (NodeLight × ℕ))))
       (coded× (coded_list entries.the_row.coded)
-          (coded× (coded_list coded_ℕ) (coded× (coded_list (coded_slot c)) (coded× lights.the_row.coded coded_ℕ))))
+      (coded× (coded_list coded_ℕ) (coded× (coded_list (coded_slot c)) (coded× lights.the_row.coded coded_ℕ))))
       (λ n. (n.entries, (n.places, (n.slots, (n.sums, n.room)))))
       (λ p. record { entries = p.0; places = p.1.0; slots = p.1.1.0; sums = p.1.1.1.0; room = p.1.1.1.1 })
       (λ _. refl)
-
--- the sum of the channels of the bound
-abbrev pub light_key : NodeLight → ℕ
-light_key light = light.bound.r + light.bound.g + light.bound.b
 
 abbrev pub made_entry : LightKind → ℕ → NodeLight → Entry
 made_entry k node light = record { key = light_key light; kind = kind_number k; node = node }
@@ -148,14 +144,6 @@ pub record IsSmall (sums : NodeLight) : Type 0 where
   pub bound_r : sums.bound.r < 2 ^ 117
   pub bound_g : sums.bound.g < 2 ^ 117
   pub bound_b : sums.bound.b < 2 ^ 117
-
--- whether a cut of so many nodes and of these sums stops
-abbrev pub sums_stop : ℕ → ℕ → ℕ → NodeLight → Bool
-sums_stop size permille count sums =
-    (count == size)
-    || ((nat_le (1000 * sums.bound.r) (permille * sums.est.r)
-    && nat_le (1000 * sums.bound.g) (permille * sums.est.g))
-    && nat_le (1000 * sums.bound.b) (permille * sums.est.b))
 
 -- the roots of the kinds before this one
 abbrev pub roots_before : LightKind → Trees → List Placed

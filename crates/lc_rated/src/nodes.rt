@@ -2,7 +2,8 @@
 ghost use Rattle.std.specs.Prelude.{◌≡◌, ◌+◌, ◌*◌, ◌<◌, ◌≤◌, ◌^◌, [], ◌∷◌, ◌++◌, length, vec_len, vec_capacity, slice_get, option_copied, Contains, IfOk, MatchOption};
 ghost use Rattle.lc_num.specs.Channels.{plus};
 ghost use Rattle.lc_heap.specs.Order.{IsFirstOf};
-ghost use Rattle.lc_rated.specs.Nodes.{CanMove, IsAdded, IsMoved, IsReplaced, IsSmall, dark, light_key, lights_plus, made_entry, made_slot, place_of, slot_of, sums_stop};
+ghost use Rattle.lc_rated.specs.Cuts.{is_stop, light_key};
+ghost use Rattle.lc_rated.specs.Nodes.{CanMove, IsAdded, IsMoved, IsReplaced, IsSmall, dark, lights_plus, made_entry, made_slot, place_of, slot_of};
 
 use crate::kind::{LightKind, number_of};
 use crate::light::NodeLight;
@@ -45,7 +46,7 @@ impl<K: Copy> Model for Nodes<K> {
     ghost view = { λ n. record { entries = n.heap.entries; places = n.places.items; slots = n.slots.items; sums = n.sums; room = n.room } };
 
     ghost invariant = { λ n. (length n.places.items ≡ 393216) × (length n.slots.items ≡ length n.heap.entries)
-    × (n.heap.room ≡ n.room) × (n.room ≤ vec_capacity n.slots) };
+        × (n.heap.room ≡ n.room) × (n.room ≤ vec_capacity n.slots) };
 }
 
 fn plus(a: Rgb, b: Rgb) -> Rgb
@@ -234,7 +235,7 @@ impl<K: Copy> Nodes<K> {
     pub fn is_done(&self, size: u32, permille: u32) -> bool
         requires small { IsSmall self.now.sums }
         requires permille { permille ≤ 1000 }
-        ensures { result ≡ sums_stop size permille (length self.now.entries) self.now.sums }
+        ensures { result ≡ is_stop size permille (length self.now.entries) self.now.sums }
     {
         let NodeLight { est, bound } = self.sums;
         let permille = permille as u128;

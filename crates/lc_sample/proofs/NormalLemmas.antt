@@ -1,9 +1,8 @@
 -- What the code of a normal computes in 64 bits.
-use Rattle.std.proofs.Common.{◌≡◌, ℕ, ◌+◌, ◌*◌, ◌/◌, ◌^◌, ◌<◌, ◌≤◌, refl, ap, ap₂, ◌∙◌, arith, ℤ, pos, ◌+ℤ◌, ◌*ℤ◌, List, [], ◌∷◌, FitsSigned, unsigned_abs}
+use Rattle.std.proofs.Common.{◌≡◌, ℕ, ◌^◌, ◌<◌, ◌≤◌, refl, ap, ◌∙◌, arith, ℤ, List, [], ◌∷◌, FitsSigned, unsigned_abs}
 use Rattle.std.specs.Int.{w64}
-use Rattle.std.proofs.lemmas.Nat.{le-div}
-use Rattle.std.proofs.Math.Nat.{div-mul-le_self, div-le_of_le-mul}
-use Rattle.lc_algebra.proofs.Poly.{Expression, var, con, ◌⊗◌, ◌⊕◌}
+use Rattle.std.proofs.Math.Nat.{div-le_of_le-mul}
+use Rattle.lc_algebra.proofs.Poly.{Expression, var, ◌⊗◌, ◌⊕◌}
 use Rattle.lc_algebra.proofs.Within.{AreWithin, none, more, within}
 use Rattle.lc_algebra.proofs.Machine.{read, raw, read_small, fits_step, gives}
 use Rattle.lc_num.specs.Cosines.{scaled}

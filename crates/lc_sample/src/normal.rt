@@ -16,7 +16,8 @@ use lc_num::{Vec3, difference, dot, scaled, short_square};
 use lc_obj::Triple;
 use lc_view::Ray;
 
-const NORMAL_LENGTH: u64 = 16_384;
+/// The greatest component of a normal, and its length where it is not rounded.
+pub(crate) const NORMAL_LENGTH: u64 = 16_384;
 
 const ZERO: Vec3 = Vec3 { x: 0, y: 0, z: 0 };
 

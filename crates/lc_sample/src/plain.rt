@@ -12,19 +12,9 @@ use crate::scene::Scene;
 use lc_cut::Forest;
 use lc_geom::Triangles;
 use lc_num::{Power, Rgb};
-use lc_terms::{Kind, Spot, factor_of};
+use lc_terms::{Kind, Spot, by_power, factor_of};
 use lc_tree::Tree;
 use lc_view::Ray;
-
-/// One channel of a factor times an intensity.
-fn channel(factor: u128, power: u64) -> u128
-    requires factor { factor ≤ 20_000 * 65_536 * 10 ^ 13 }
-    requires power { power ≤ 10 ^ 8 }
-    ensures value { result ≡ factor * power }
-    ensures small { result ≤ 20_000 * 65_536 * 10 ^ 21 }
-{
-    factor * power as u128
-}
 
 /// What a light gives to a spot: its factor times its intensity.
 fn contribution<K: Kind, T: Triangles>(spot: &Spot, light: &K::Light, scene: &T) -> Rgb
@@ -34,12 +24,7 @@ fn contribution<K: Kind, T: Triangles>(spot: &Spot, light: &K::Light, scene: &T)
     ensures small { IsRgbWithin (20_000 * 65_536 * 10 ^ 21) result }
 {
     let factor = factor_of::<K, T>(spot, light, scene);
-    let power = power_of::<K>(light);
-    Rgb {
-        r: channel(factor.r, power.r),
-        g: channel(factor.g, power.g),
-        b: channel(factor.b, power.b),
-    }
+    by_power(factor, power_of::<K>(light))
 }
 
 fn power_of<K: Kind>(light: &K::Light) -> Power

@@ -36,7 +36,7 @@ impl Model for Scene {
     ghost view = { λ s. record { surfaces = s.surfaces; forest = s.forest } };
 
     ghost invariant = { λ s. (s.triangles ≡ map (λ x. x.tri) s.surfaces)
-    × IsScene (record { surfaces = s.surfaces; forest = s.forest }) };
+        × IsScene (record { surfaces = s.surfaces; forest = s.forest }) };
 }
 
 /// How a surface sends light back where no library says it: 0.8 of the light, and no highlight.

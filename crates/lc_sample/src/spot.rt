@@ -10,15 +10,13 @@ ghost use Rattle.lc_sample.specs.Surfaces.{IsSurface};
 ghost use Rattle.lc_sample.specs.Spots.{IsHit, lifted, mirrored, mirrored_part, mirrored_view, off_surface, part_at, place_at, spot_on};
 ghost use Rattle.lc_sample.specs.Sampled.{spot_of as spot_by};
 
-use crate::normal::{facing, normal_at};
+use crate::normal::{NORMAL_LENGTH, facing, normal_at};
 use crate::scene::Scene;
 use crate::surface::Surface;
 use lc_geom::Hit;
 use lc_num::{Vec3, difference, dot, scaled};
 use lc_terms::Spot;
 use lc_view::Ray;
-
-const NORMAL_LENGTH: u64 = 16_384;
 
 /// The greatest coordinate of a spot.
 const MOST: i64 = 50_100_000;
@@ -47,7 +45,7 @@ fn place_at(ray: Ray, depth: u32) -> Vec3
     }
 }
 
-/// How far a coordinate moves where a place moves along 16/16384 of a normal, toward zero: at most 16 units.
+/// How far a coordinate moves where a place moves along 16/16384 of a normal, toward zero.
 fn lift(normal: i64) -> i64
     requires { unsigned_abs normal ≤ 16384 }
     ensures value { result ≡ int_div (normal *ℤ pos 16) (pos 16384) }
@@ -91,7 +89,7 @@ fn mirrored_part(turned: i64, squared: i64, n: i64, w: i64) -> i64
 }
 
 /// The dot product of vectors of at most 16384 in each component.
-fn short_dot(a: Vec3, b: Vec3) -> i64
+fn dot_of_normals(a: Vec3, b: Vec3) -> i64
     requires a { Within 16384 a }
     requires b { Within 16384 b }
     ensures value { result ≡ dot a b }
@@ -107,8 +105,8 @@ fn mirrored(n: Vec3, w: Vec3) -> Vec3
     ensures value { result ≡ mirrored n w }
     ensures within { Within (2 ^ 60) result }
 {
-    let turned = short_dot(n, w);
-    let squared = short_dot(n, n);
+    let turned = dot_of_normals(n, w);
+    let squared = dot_of_normals(n, n);
     Vec3 {
         x: mirrored_part(turned, squared, n.x, w.x),
         y: mirrored_part(turned, squared, n.y, w.y),

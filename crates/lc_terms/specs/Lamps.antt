@@ -47,15 +47,26 @@ zero_within m = record { x = omega arith; y = omega arith; z = omega arith }
 
 one_pile : (l : Lamp) → IsLamp l → IsPile (l.1, 1)
 one_pile l h =
-    record { count = omega arith; total = record { r = omega (arith, h.power.r); g = omega
-        (arith, h.power.g); b = omega (arith, h.power.b) } }
+    record {
+      count = omega arith;
+      total = record {
+        r = omega (arith, h.power.r);
+        g = omega
+            (arith, h.power.g);
+        b = omega (arith, h.power.b);
+      };
+    }
 
 join_piles : (a b : Pile) → IsPile a → IsPile b → a.1 + b.1 ≤ 65_536 → IsPile (power_plus a.0 b.0, a.1 + b.1)
 join_piles a b ha hb few = record {
   count = few;
   total =
-      record { r = omega (arith, ha.total.r, hb.total.r); g = omega (arith, ha.total.g, hb.total.g); b = omega
-          (arith, ha.total.b, hb.total.b) };
+      record {
+        r = omega (arith, ha.total.r, hb.total.r);
+        g = omega (arith, ha.total.g, hb.total.g);
+        b = omega
+            (arith, ha.total.b, hb.total.b);
+      };
 }
 
 same_black : (r g b : ℕ) → r ≡ 0 → g ≡ 0 → b ≡ 0 → ◌≡◌ {A = Rgb} black (record { r = r; g = g; b = b })

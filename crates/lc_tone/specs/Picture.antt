@@ -11,7 +11,7 @@ mean channel samples = sum_by channel samples / length samples
 unfoldable pub pixel_bytes : ℕ → List Rgb → List ℕ
 pixel_bytes white samples =
     byte_of (mean (λ c. c.r) samples) white ∷ byte_of (mean (λ c. c.g) samples) white ∷ byte_of
-        (mean (λ c. c.b) samples) white ∷ []
+    (mean (λ c. c.b) samples) white ∷ []
 
 -- the binary PPM picture of so many columns and rows under a white point, by its pixels from the left and from the top,
 -- each by the radiances at its samples

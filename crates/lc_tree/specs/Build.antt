@@ -56,7 +56,7 @@ module _ {L C : Type 0} where
       let ordered = in_order (comes_before (longest_axis all)) all in
       let half = length all / 2 in
       forked m (word p) (halved m word fuel (p + 1) (take half ordered))
-          (halved m word fuel (p + 2 * half) (drop half ordered))
+      (halved m word fuel (p + 2 * half) (drop half ordered))
 
   -- the lights with their numbers, which are their indices, and their places
   abbrev pub numbered : Meaning L C → List L → List (Numbered L)

@@ -117,5 +117,5 @@ module _ {L : Type 0} where
   abbrev pub coded_kept : Coded L → Coded (Kept L)
   coded_kept c =
       code_by (List L × List ((ℕ × L) ⊎ (ℕ × L)))
-          (coded× (coded_list c)
-          (coded_list (coded⊎ (coded× coded_ℕ c) (coded× coded_ℕ c)))) kept_tokens kept_of kept-tokens
+      (coded× (coded_list c)
+      (coded_list (coded⊎ (coded× coded_ℕ c) (coded× coded_ℕ c)))) kept_tokens kept_of kept-tokens

@@ -34,7 +34,7 @@ impl<K: Kind> Model for Tree<K> {
     ghost view = { λ t. record { lights = t.lights.items; root = read_rows t.lights.items t.rows.items } };
 
     ghost invariant = { λ t. IsLaidIf K.meaning.valid_light K.meaning.one K.meaning.join t.lights.items t.rows.items
-    × IsListed t.rows.items t.leaves.order.items t.leaves.firsts.items };
+        × IsListed t.rows.items t.leaves.order.items t.leaves.firsts.items };
 }
 
 impl<K: Kind> Tree<K> {

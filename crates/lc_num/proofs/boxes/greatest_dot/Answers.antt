@@ -1,5 +1,5 @@
 use Rattle.std.proofs.Common.{rules, ◌*◌, ◌∙◌, ap}
-use Rattle.lc_num.specs.Boxes.{Ends, greatest_dot}
+use Rattle.lc_num.specs.Boxes.{SpanEnds, greatest_dot}
 use Rattle.lc_num.proofs.BoxLemmas.{ends_small}
 use Rattle.lc_num.proofs.BoxCode.{greatest_is, max_read, product_read}
 use Rattle.lc_num.proofs.boxes.greatest_dot.Goals as goal
@@ -23,4 +23,4 @@ returns-clause-value c =
     (max_read c.args.n.x c.span.inside.lo.x c.span.inside.hi.x c.greater_product.result (search rules) (search rules) (search rules) c.greater_product.ensures.value)
     (max_read c.args.n.y c.span.inside.lo.y c.span.inside.hi.y c.greater_product-2.result (search rules) (search rules) (search rules) c.greater_product-2.ensures.value)
     (max_read c.args.n.z c.span.inside.lo.z c.span.inside.hi.z c.greater_product-3.result (search rules) (search rules) (search rules) c.greater_product-3.ensures.value)
-    ∙ ap (λ (box : Ends). greatest_dot c.args.n box) c.span.view_is
+    ∙ ap (λ (box : SpanEnds). greatest_dot c.args.n box) c.span.view_is

@@ -1,5 +1,5 @@
 use Rattle.std.proofs.Common.{rules, ◌*◌, ◌∙◌, ap}
-use Rattle.lc_num.specs.Boxes.{Ends}
+use Rattle.lc_num.specs.Boxes.{SpanEnds}
 use Rattle.lc_num.specs.Crosses.{least_cross}
 use Rattle.lc_num.proofs.BoxCode.{product_read}
 use Rattle.lc_num.proofs.CrossCode.{crosses_small, multiples_are, least_cross_is}
@@ -83,4 +83,4 @@ returns-clause-value c =
     (multiples_are c.args.n.y lo.x hi.x c.multiples-6.result (search rules) (search rules) (search rules)
     c.multiples-6.ensures.lo c.multiples-6.ensures.hi)
     c.least_difference-x.ensures.value c.least_difference-y.ensures.value c.least_difference-z.ensures.value
-    ∙ ap (λ (box : Ends). least_cross (record { lo = c.args.n; hi = c.args.n }) box) c.span.view_is
+    ∙ ap (λ (box : SpanEnds). least_cross (record { lo = c.args.n; hi = c.args.n }) box) c.span.view_is

@@ -1,5 +1,5 @@
 use Rattle.std.proofs.Common.{rules, ◌∙◌, ap₂}
-use Rattle.lc_num.specs.Boxes.{Ends}
+use Rattle.lc_num.specs.Boxes.{SpanEnds}
 use Rattle.lc_num.specs.Crosses.{least_cross}
 use Rattle.lc_num.proofs.CrossCode.{products_are, least_cross_is}
 use Rattle.lc_num.proofs.crosses.least_cross_of_boxes.Goals as goal
@@ -22,4 +22,4 @@ returns-clause-value c =
     (products_are a.lo.y a.hi.y b.lo.x b.hi.x c.products-6.result (search rules) (search rules) (search rules)
     (search rules) c.products-6.ensures.lo c.products-6.ensures.hi)
     c.least_difference-x.ensures.value c.least_difference-y.ensures.value c.least_difference-z.ensures.value
-    ∙ ap₂ (λ (a b : Ends). least_cross a b) c.a.view_is c.b.view_is
+    ∙ ap₂ (λ (a b : SpanEnds). least_cross a b) c.a.view_is c.b.view_is

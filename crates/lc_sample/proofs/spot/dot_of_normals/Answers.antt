@@ -4,7 +4,7 @@ use Rattle.std.specs.Int.RustNames.{unsigned_abs}
 use Rattle.std.proofs.lemmas.Int.{fits_signed_from_abs}
 use Rattle.lc_algebra.proofs.Machine.{read, read_small}
 use Rattle.lc_num.proofs.Triples.{dot_bound}
-use Rattle.lc_sample.proofs.spot.short_dot.Goals as goal
+use Rattle.lc_sample.proofs.spot.dot_of_normals.Goals as goal
 
 small : (c : goal.After-dot) → unsigned_abs c.dot.result ≤ 2 ^ 30
 small c = rw c.dot.ensures (omega (arith, dot_bound 16384 16384 c.args.a c.args.b c.requires.a c.requires.b))

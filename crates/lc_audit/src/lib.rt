@@ -11,6 +11,3 @@ pub use auditing::audit;
 pub use channel::Channel;
 pub use laws::verdicts;
 pub use verdict::{Miss, Verdict};
-
-#[cfg(test)]
-mod tests;

@@ -112,6 +112,3 @@ impl Kind for OrientedKind {
         scaled_total(geometry, spot, reflection, clump.total)
     }
 }
-
-#[cfg(test)]
-mod tests;

@@ -113,6 +113,3 @@ impl Kind for SunKind {
         scaled_total(GEOMETRY, spot, reflection, clump.total)
     }
 }
-
-#[cfg(test)]
-mod tests;

@@ -9,6 +9,3 @@ mod node;
 pub use forest::{Ask, Bench, Forest, cut};
 pub use laws::{distance_to_all_lights, forests_of_all_lights, nodes_within_bounds, sums_fit};
 pub use lc_rated::Answer;
-
-#[cfg(test)]
-mod tests;

@@ -14,6 +14,3 @@ pub use laws::{blocked_by, crossing_point, nearest_hit};
 pub use triangle::{Tri, is_flat, normal_of};
 pub use triangles::Triangles;
 pub use weights::{Weights, weights_of};
-
-#[cfg(test)]
-mod tests;

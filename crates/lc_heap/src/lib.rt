@@ -9,6 +9,3 @@ mod sift;
 pub use entry::Entry;
 pub use heap::Heap;
 pub use laws::{binary_digits, entries_in_order};
-
-#[cfg(test)]
-mod tests;

@@ -37,6 +37,3 @@ pub use scaling::scaled;
 pub use steps::Steps;
 pub use texts::Text;
 pub use vectors::Vec3;
-
-#[cfg(test)]
-mod tests;

@@ -21,6 +21,3 @@ pub use laws::{
 };
 pub use light::NodeLight;
 pub use lighting::{Found, Lighting, Split};
-
-#[cfg(test)]
-mod tests;

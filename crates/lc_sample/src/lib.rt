@@ -11,10 +11,7 @@ mod surface;
 
 pub use laws::sampled_light;
 pub use plain::plain_sample;
-pub use sampling::sample;
+pub use sampling::{sample, spot_seen};
 pub use scene::Scene;
 pub use spot::spot_of;
 pub use surface::{Reflectance, Surface};
-
-#[cfg(test)]
-mod tests;

@@ -28,7 +28,7 @@ fn no_answer() -> Answer
 }
 
 /// The spot of a ray's nearest hit.
-pub(crate) fn spot_seen(scene: &Scene, ray: Ray) -> Option<Spot>
+pub fn spot_seen(scene: &Scene, ray: Ray) -> Option<Spot>
     requires ray { IsRay ray }
     ensures value { result ≡ spot_seen scene.now ray }
     ensures valid { IfSome result IsSpot }

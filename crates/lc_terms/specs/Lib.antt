@@ -9,4 +9,3 @@ pub mod Spot
 pub mod Factor
 pub mod Kind
 pub mod SeenLaws
-pub mod Lamps

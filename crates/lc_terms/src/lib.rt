@@ -10,6 +10,3 @@ pub use factor::{by_power, eval, factor_of};
 pub use kind::Kind;
 pub use reflection::material;
 pub use spot::Spot;
-
-#[cfg(test)]
-mod tests;

@@ -6,6 +6,3 @@ mod tone;
 
 pub use picture::header;
 pub use tone::byte;
-
-#[cfg(test)]
-mod tests;

@@ -11,6 +11,3 @@ mod tree;
 
 pub use laws::longest_extents;
 pub use tree::Tree;
-
-#[cfg(test)]
-mod tests;

@@ -8,6 +8,3 @@ mod samples;
 pub use camera::Camera;
 pub use ray::{Ray, ray_of};
 pub use samples::ray_of_sample;
-
-#[cfg(test)]
-mod tests;

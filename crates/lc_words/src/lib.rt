@@ -4,6 +4,3 @@
 mod stream;
 
 pub use stream::Stream;
-
-#[cfg(test)]
-mod tests;

@@ -1,7 +1,0 @@
-use Rattle.std.proofs.Common.{refl}
-use Rattle.lc_geom.specs.Hits.{blocked}
-use Rattle.lc_cut.proofs.tests.CountingTriangles.blocked.Goals as goal
-
-pub returns : goal.returns
-unfolding blocked
-returns c = refl

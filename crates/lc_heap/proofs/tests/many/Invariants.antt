@@ -1,5 +1,0 @@
-use Rattle.std.proofs.Common.{◌≡◌}
-use Rattle.lc_heap.proofs.tests.many.Given as goal
-
-abbrev pub invariant-put : goal.invariant-put
-invariant-put g l = l.heap.room ≡ 500

@@ -1,4 +1,0 @@
-use Rattle.lc_heap.proofs.tests.many_entries.Given as goal
-
-abbrev pub ghosts-many : goal.ghosts-many
-ghosts-many g a = record { name = a.blank.name; parts = a.blank.parts }

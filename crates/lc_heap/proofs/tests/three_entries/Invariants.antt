@@ -1,4 +1,0 @@
-use Rattle.lc_heap.proofs.tests.three_entries.Given as goal
-
-abbrev pub ghosts-three : goal.ghosts-three
-ghosts-three g a = record { name = a.blank.name; parts = a.blank.parts }

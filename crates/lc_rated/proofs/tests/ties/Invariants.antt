@@ -1,4 +1,0 @@
-use Rattle.lc_rated.proofs.tests.ties.Given as goal
-
-abbrev pub ghosts-best_of_lamps : goal.ghosts-best_of_lamps
-ghosts-best_of_lamps g a = record { name = a.blank.name; parts = a.blank.parts }

@@ -1,0 +1,7 @@
+use Rattle.std.proofs.Common.{refl}
+use Rattle.lc_geom.specs.Hits.{nearest, first}
+use Rattle.lc_scene_tests.proofs.lights.CountingTriangles.nearest.Goals as goal
+
+pub returns : goal.returns
+unfolding nearest first
+returns c = refl

@@ -1,4 +1,0 @@
-use Rattle.lc_terms.proofs.tests.factors.Given as goal
-
-abbrev pub ghosts-factor_of_dark : goal.ghosts-factor_of_dark
-ghosts-factor_of_dark g a = record { name = a.blank.name; parts = a.blank.parts }

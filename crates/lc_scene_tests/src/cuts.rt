@@ -2,8 +2,8 @@
 ghost use Rattle.std.specs.Prelude.{◌≡◌, ◌<◌, ◌≤◌};
 ghost use Rattle.lc_rated.specs.Tables.{gray, gray_light};
 
-use lc_rated::{Answer, Bench, Found, LightKind, Lighting, NodeLight, Split, best_cut};
 use lc_num::{Memory, Rgb, Steps};
+use lc_rated::{Answer, Bench, Found, LightKind, Lighting, NodeLight, Split, best_cut};
 use std::alloc::Global;
 use std::marker::Brand;
 use std::sync::ledger::{Blank, Ledger};

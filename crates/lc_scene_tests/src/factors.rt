@@ -3,9 +3,9 @@ ghost use Rattle.std.specs.Prelude.{◌≡◌, ◌<◌, ◌≤◌};
 ghost use Rattle.lc_terms.specs.Spot.{IsSpot};
 
 use crate::lamps::Dark;
-use lc_terms::{Kind, Spot, eval, material};
 use lc_geom::{Hit, Triangles};
 use lc_num::{Colour, Power, Rgb, Rule, Steps, Vec3};
+use lc_terms::{Kind, Spot, eval, material};
 use std::marker::Brand;
 use std::sync::ledger::{Blank, Ledger};
 use std::test::*;

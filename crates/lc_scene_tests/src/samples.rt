@@ -2,12 +2,12 @@
 ghost use Rattle.std.specs.Prelude.{◌≡◌, ◌<◌, ◌≤◌, length};
 ghost use Rattle.lc_view.specs.Camera.{IsRay};
 
-use lc_sample::{Scene, sample, spot_seen};
 use lc_cut::{Answer, Ask, Bench};
 use lc_light::read_lights;
 use lc_mtl::{Materials, read_mtl};
 use lc_num::{Colour, Rgb, Rule, Steps, Vec3};
 use lc_obj::read_obj;
+use lc_sample::{Scene, sample, spot_seen};
 use lc_terms::Spot;
 use lc_view::Ray;
 use std::alloc::Global;

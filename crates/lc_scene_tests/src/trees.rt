@@ -4,9 +4,9 @@ ghost use Rattle.lc_num.specs.Vectors.{Within};
 ghost use Rattle.lc_scene_tests.specs.Lamps.{IsLamp};
 
 use crate::lamps::Dark;
-use lc_tree::Tree;
 use lc_num::{Memory, Power, Rgb, Rule, Vec3};
 use lc_terms::{Kind, Spot};
+use lc_tree::Tree;
 use std::test::*;
 
 /// A lamp on the x axis, of one intensity in each channel.

@@ -1,8 +1,9 @@
 #!/usr/bin/env bash
-# Makes a small room in Blender (tests/blender_room.py), with a point, a sun and an area light, and renders it by Cycles under
-# each light alone and under all; exports each file by tools/blender/export.py, renders it by the program, turns the picture
-# back into linear light and compares. Give the program's path; without one it takes the built one. It needs Blender, with
-# Cycles, and python3, and takes two minutes.
+# Makes a small room in Blender (tests/blender_room.py), with a point, a sun and an area light, and renders it by Cycles
+# under each light alone and under all; exports each file by tools/blender/export.py, renders it by the program, turns
+# the picture back into linear light and compares. Then it looks at what an export says of scenes that it cannot write
+# whole. Give the program's path; without one it takes the built one. It needs Blender, with Cycles, and python3, and
+# takes two minutes.
 set -u
 here=$(cd "$(dirname "$0")/.." && pwd)
 program=$(realpath "${1:-$here/crates/lightcuts/out/lightcuts}") || exit 2
@@ -23,8 +24,8 @@ told() {
     fi
 }
 
-# exported STATUS NOTES FOLDER WORDS..: the status, and the lines on standard error, of an export into the folder of what
-# Blender has by these words
+# exported STATUS NOTES FOLDER WORDS..: the status, and the lines on standard error, of an export into the folder of
+# what Blender has by these words
 exported() {
     local status=$1 notes=$2 folder=$3
     shift 3
@@ -92,7 +93,9 @@ scene.world = None
 objects['Cube'].data.materials.clear()
 $4"
 }
-rendered_small() { sed -i 's/^size .*/size 8 6/; s/^cut .*/cut 3/' "$1/scene.txt" && (cd "$1" && "$program" render scene.txt); }
+rendered_small() {
+    sed -i 's/^size .*/size 8 6/; s/^cut .*/cut 3/' "$1/scene.txt" && (cd "$1" && "$program" render scene.txt)
+}
 told 'a first scene' started 0 '' first ''
 told 'the render of a first scene' rendered_small first
 told 'no light' started 1 'nothing is written, as no surface or no light is left, of the scene: Scene' dark \

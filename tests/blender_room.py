@@ -2,10 +2,10 @@
 
     blender -b --factory-startup -P tests/blender_room.py -- FOLDER
 
-writes for each of its lights alone and for all together the file NAME.blend into FOLDER, and NAME.floats: the picture that
-Cycles makes of it by direct light, as float32 in red, green and blue, rows from the bottom. The room has what an export has
-to follow: a turned and a mirrored object, a smooth shape with a modifier, a concave face, an instance of a collection and
-an area light whose object is scaled.
+writes for each of its lights alone and for all together the file NAME.blend into FOLDER, and NAME.floats: the picture
+that Cycles makes of it by direct light, as float32 in red, green and blue, rows from the bottom. The room has what an
+export has to follow: a turned and a mirrored object, a smooth shape with a modifier, a concave face, an instance of a
+collection and an area light whose object is scaled.
 """
 import array
 import math
@@ -49,7 +49,8 @@ def block(name, low, high, material, matrix=Matrix(), sides=None):
 
 
 def furnish():
-    walls, wood, red = matte("walls", (0.7, 0.68, 0.6)), matte("wood", (0.5, 0.3, 0.15)), matte("red # 1", (0.6, 0.1, 0.1))
+    walls, wood = matte("walls", (0.7, 0.68, 0.6)), matte("wood", (0.5, 0.3, 0.15))
+    red = matte("red # 1", (0.6, 0.1, 0.1))
     # open above, where the sun comes in, and toward the camera
     block("room", (-3, -3, 0), (3, 3, 3), walls, sides=[(0, 1, 2, 3), (1, 2, 6, 5), (2, 3, 7, 6), (3, 0, 4, 7)])
     turned = Matrix.Translation((-1.2, 0.8, 0)) @ Matrix.Rotation(0.6, 4, "Z")

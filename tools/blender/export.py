@@ -2,14 +2,14 @@
 
     blender -b FILE -P tools/blender/export.py -- FOLDER [SAMPLES]
 
-puts scene.obj, scene.mtl, scene.lights and scene.txt into FOLDER, which is made where it is not there. Run the program in
-FOLDER: `lightcuts render scene.txt`. An area light becomes SAMPLES samples, 256 where none are named, and fewer where all
-lights together would pass 65,536.
+puts scene.obj, scene.mtl, scene.lights and scene.txt into FOLDER, which is made where it is not there. Run the
+program in FOLDER: `lightcuts render scene.txt`. An area light becomes SAMPLES samples, 256 where none are named, and
+fewer where all lights together would pass 65,536.
 
-The scene is what a render of the file would show: objects, instances, modifiers and their levels are those of a render.
-Blender's upward z is y here, and its y is -z. Texts of the files are those of docs/FORMATS.md, which lightcuts accepts.
-docs/USAGE.md ("From Blender") has the units of lights and what does not carry over. What a scene has and the files do not
-is named on standard error, a line for each reason. The status is 1 where no surface, no light or no file comes out.
+The scene is what a render of the file would show: objects, instances, modifiers and their levels are those of a
+render. Blender's upward z is y here, and its y is -z. docs/FORMATS.md says how the files are written, and
+docs/USAGE.md ("From Blender") which units lights have and what does not carry over. What a scene has and the files do
+not is named on standard error, a line for each reason. The status is 1 where no surface, no light or no file comes out.
 """
 import math
 import os
@@ -141,7 +141,8 @@ def principled(material, node):
     glow = node.inputs.get("Emission") or node.inputs.get("Emission Color")
     if glow and shines and (glow.is_linked or any(glow.default_value[:3])):
         note("light of shining surfaces is left out, of materials", material.name)
-    if any(share(name) for name in names if name in ("Specular", "Specular IOR Level", "Metallic", "Sheen", "Clearcoat")):
+    shining = ("Specular", "Specular IOR Level", "Metallic", "Sheen", "Clearcoat")
+    if any(share(name) for name in names if name in shining):
         note("highlights are left out, of materials", material.name)
     if any(share(name) for name in names if name in ("Transmission", "Transmission Weight", "Subsurface")):
         note("light through surfaces is left out, of materials", material.name)
@@ -167,62 +168,44 @@ class Scene:
         mesh.calc_normals_split()
         mesh.calc_loop_triangles()
         places = [upright(matrix @ v.co) for v in mesh.vertices]
+        known, loops = corner_normals(mesh, matrix.to_3x3().inverted_safe().transposed())
+        sums = (self.triangles + len(mesh.loop_triangles), self.places + len(places), self.normals + len(known))
         if not all(map(inside, places)):
             note(f"a coordinate above {PLACE:.0f}: left out are the objects", thing.name)
-        elif not self.fits(mesh):
+        elif max(sums) > TRIANGLES:
             note(f"more than {TRIANGLES} triangles, places or normals: left out are the objects", thing.name)
         else:
-            self.put(thing, mesh, places, matrix)
+            self.lines.append("o " + re.sub(r"[\x00-\x1f\x7f\\]", "_", thing.name))
+            self.lines += ["v " + spelled(place) for place in places]
+            self.lines += ["vn " + text for text in known]
+            self.put_faces(thing, mesh, loops)
+            self.triangles, self.places, self.normals = sums
         thing.to_mesh_clear()
 
-    def fits(self, mesh):
-        """Whether the mesh stays within the limits, each corner counted as a normal of its own where it may have one."""
-        count = len(mesh.loop_triangles)
-        normals = len(mesh.loops) if may_be_smooth(mesh) else 0
-        sums = (self.triangles + count, self.places + len(mesh.vertices), self.normals + normals)
-        return max(sums) <= TRIANGLES
-
-    def put(self, thing, mesh, places, matrix):
-        self.lines.append("o " + re.sub(r"[\x00-\x1f\x7f\\]", "_", thing.name))
-        self.lines += ["v " + spelled(place) for place in places]
-        turned = matrix.to_3x3().inverted_safe().transposed()
-        loops = self.corner_normals(mesh, turned)
+    def put_faces(self, thing, mesh, loops):
+        names = [self.palette.name_of(slot.material) for slot in thing.material_slots] or [self.palette.name_of(None)]
         used = None
         for triangle in mesh.loop_triangles:
-            slots = thing.material_slots
-            at = min(triangle.material_index, len(slots) - 1)
-            name = self.palette.name_of(slots[at].material if slots else None)
+            name = names[min(triangle.material_index, len(names) - 1)]
             if name != used:
                 self.lines.append("usemtl " + name)
                 used = name
             corners = [str(self.places + v + 1) for v in triangle.vertices]
-            if triangle.use_smooth or may_be_smooth(mesh) and mesh.use_auto_smooth:
-                corners = [f"{corner}//{loops[loop]}" for corner, loop in zip(corners, triangle.loops)]
+            if triangle.use_smooth or mesh.use_auto_smooth:
+                corners = [f"{v}//{self.normals + loops[loop] + 1}" for v, loop in zip(corners, triangle.loops)]
             self.lines.append("f " + " ".join(corners))
-        self.places += len(places)
-        self.triangles += len(mesh.loop_triangles)
-
-    def corner_normals(self, mesh, turned):
-        """The numbers of the normals of all corners, each normal written once."""
-        if not may_be_smooth(mesh):
-            return []
-        known = {}
-        numbers = []
-        for loop in mesh.loops:
-            text = "vn " + spelled(upright((turned @ loop.normal).normalized()))
-            if text not in known:
-                known[text] = self.normals + len(known) + 1
-            numbers.append(known[text])
-        self.lines += known
-        self.normals += len(known)
-        return numbers
 
     def text(self):
         return "\n".join(self.lines) + "\n"
 
 
-def may_be_smooth(mesh):
-    return mesh.use_auto_smooth or any(p.use_smooth for p in mesh.polygons)
+def corner_normals(mesh, turned):
+    """The normals of all corners of a mesh with smooth faces: each once, and for each corner which of these it has."""
+    if not mesh.use_auto_smooth and not any(p.use_smooth for p in mesh.polygons):
+        return {}, []
+    known = {}
+    texts = (spelled(upright((turned @ loop.normal).normalized())) for loop in mesh.loops)
+    return known, [known.setdefault(text, len(known)) for text in texts]
 
 
 def light_colour(light):

@@ -1,0 +1,8 @@
+//! Maps of a record: pictures that show, pixel by pixel, how great the bounds and the cuts of its samples are.
+#![tactic(auto)]
+
+mod kind;
+mod pixel;
+mod scale;
+
+pub use kind::Kind;

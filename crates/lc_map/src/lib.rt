@@ -3,6 +3,10 @@
 
 mod kind;
 mod pixel;
+mod program;
+mod rows;
 mod scale;
+mod words;
 
 pub use kind::Kind;
+pub use program::run;

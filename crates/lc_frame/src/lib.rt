@@ -11,9 +11,10 @@ mod row;
 mod stop;
 mod summary;
 
+pub use calls::put;
 pub use laws::{written_files, written_picture};
 pub use plain::plain_rows;
-pub use render::render_rows;
+pub use render::{render_rows, start};
 pub use room::header_of;
 pub use stop::FrameStop;
 pub use summary::Summary;

@@ -22,7 +22,7 @@ use std::alloc::Global;
 use std::sync::ledger::Ledger;
 
 /// Begins a file, with its header.
-pub(crate) fn start<D: Desk>(
+pub fn start<D: Desk>(
     desk: &mut D,
     slot: Slot,
     name: &str,

@@ -5,7 +5,7 @@ mod audit;
 mod fixed;
 mod make;
 mod names;
-mod note;
+pub mod note;
 mod parse;
 mod plain;
 mod probe;
@@ -19,6 +19,9 @@ mod world;
 mod write;
 
 pub use program::run;
+pub use read::read_record_file;
+pub use status::{Source, Status, Stop};
+pub use write::settle;
 
 #[cfg(test)]
 mod audit_tests;

@@ -11,8 +11,8 @@ use lc_audit::Miss;
 use lc_desk::{Desk, Slot};
 use lc_job::Key;
 
-/// Puts the two pieces of a line. After a piece that is refused nothing more is put.
-fn note<D: Desk>(desk: &mut D, first: &str, second: &str)
+/// Puts the two pieces of a line on Note. After a piece that is refused nothing more is put.
+pub fn note<D: Desk>(desk: &mut D, first: &str, second: &str)
     ensures noted { Noted (first.now ++ second.now) (D.state desk.old) (D.state desk.new) }
     ensures asked { (D.state desk.new).asked ≡ (D.state desk.old).asked }
     ensures counts { NoReadCounted (D.state desk.old) (D.state desk.new) }
@@ -22,6 +22,7 @@ fn note<D: Desk>(desk: &mut D, first: &str, second: &str)
     }
 }
 
+/// Tells that there is no memory.
 pub fn note_memory<D: Desk>(desk: &mut D)
     ensures noted { Noted memory_line (D.state desk.old) (D.state desk.new) }
     ensures asked { (D.state desk.new).asked ≡ (D.state desk.old).asked }

@@ -1,5 +1,5 @@
 -- The greatest number that passes a test, by other tests.
-use Rattle.std.proofs.Common.{◌≡◌, ℕ, zero, suc, ◌+◌, ◌<◌, ◌≤◌, ◌||◌, max, Bool, true, false, refl, sym, ◌∙◌, ap, arith, ⊎_elim, List, length, take, get_or}
+use Rattle.std.proofs.Common.{◌≡◌, ◌≢◌, ℕ, zero, suc, ◌+◌, ◌<◌, ◌≤◌, ◌||◌, max, Bool, true, false, refl, sym, ◌∙◌, ap, arith, ⊎_elim, List, length, take, get_or}
 use Rattle.std.proofs.lemmas.Bool.{cases_Bool, cases_eq}
 use Rattle.std.proofs.lemmas.List.Folds.{list_any_more}
 use Rattle.std.specs.List.{list_any}
@@ -74,3 +74,13 @@ bytes-more samples i d before byte now inside so_far one is =
 -- no sample at all
 pub bytes-none : (samples : List Answer) → 0 ≡ greatest_up_to (λ b. list_any (sample_reaches b) (take 0 samples)) 255
 bytes-none samples = sym (greatest-none (λ b. list_any (sample_reaches b) (take 0 samples)) 255 (λ j some most. refl))
+
+-- it passes, where it is not 0
+pub greatest-passes : (test : ℕ → Bool) (most : ℕ) → greatest_up_to test most ≢ 0 → test (greatest_up_to test most) ≡ true
+unfolding greatest_up_to
+greatest-passes test zero some = absurd (some refl)
+greatest-passes test (suc most) some =
+    ⊎_elim
+    (λ (yes : test (suc most) ≡ true). simp yes)
+    (λ (no : test (suc most) ≡ false). simp no (greatest-passes test most (simp no at some)))
+    (cases_Bool (test (suc most)))

@@ -139,3 +139,15 @@ reached-within est bound some_est some_bound = greatest-same (λ byte. nat_le (s
       grind (arith, nat_tests))
       (λ (more : share_of j * est ≤ 32_000 * bound). let within : share_of j ≤ 32_000 * bound / est = both.1 more in grind (arith, nat_tests))
       (cases_lt (32_000 * bound) (share_of j * est))
+
+-- ---- the scale
+
+pub share-doubles : (byte : ℕ) → share_of (byte + 16) ≡ 2 * share_of byte
+unfolding share_of
+share-doubles byte =
+    let up : (byte + 16) / 16 ≡ suc (byte / 16) = omega arith in
+    let same : (byte + 16) % 16 ≡ byte % 16 = omega arith in
+    let power : 2 ^ suc (byte / 16) ≡ 2 * 2 ^ (byte / 16) = omega arith in
+    rw (up, same, power) (twice (2 ^ (byte / 16)) (16 + byte % 16)) where
+  twice : (p n : ℕ) → 2 * p * n ≡ 2 * (p * n)
+  twice p n = grind arith

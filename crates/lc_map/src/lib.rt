@@ -2,6 +2,7 @@
 #![tactic(auto)]
 
 mod kind;
+mod laws;
 mod pixel;
 mod program;
 mod rows;
@@ -9,4 +10,8 @@ mod scale;
 mod words;
 
 pub use kind::Kind;
+pub use laws::{pixels_of_a_record, scale_of_bounds};
 pub use program::run;
+
+#[cfg(test)]
+mod tests;

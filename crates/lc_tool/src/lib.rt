@@ -19,18 +19,3 @@ mod world;
 mod write;
 
 pub use program::run;
-
-#[cfg(test)]
-mod audit_tests;
-#[cfg(test)]
-mod failing_tests;
-#[cfg(test)]
-mod limit_tests;
-#[cfg(test)]
-mod make_tests;
-#[cfg(test)]
-mod render_tests;
-#[cfg(test)]
-mod shade_tests;
-#[cfg(test)]
-mod tests;

@@ -22,18 +22,3 @@ pub use program::run;
 pub use read::read_record_file;
 pub use status::{Source, Status, Stop};
 pub use write::settle;
-
-#[cfg(test)]
-mod audit_tests;
-#[cfg(test)]
-mod failing_tests;
-#[cfg(test)]
-mod limit_tests;
-#[cfg(test)]
-mod make_tests;
-#[cfg(test)]
-mod render_tests;
-#[cfg(test)]
-mod shade_tests;
-#[cfg(test)]
-mod tests;

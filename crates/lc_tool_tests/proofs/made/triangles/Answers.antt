@@ -1,7 +1,7 @@
 use Rattle.std.proofs.Common.{◌≡◌, List, [], ◌∷◌, ◌++◌, All, subst, sym, rules}
 use Rattle.std.proofs.lemmas.List.Elements.{All-append, All-cons, All-nil}
 use Rattle.lc_geom.specs.Triangles.{IsTri}
-use Rattle.lc_tool.proofs.make_tests.triangles.Goals as goal
+use Rattle.lc_tool_tests.proofs.made.triangles.Goals as goal
 
 pub loop-face-preserved : goal.loop-face-preserved
 loop-face-preserved c =

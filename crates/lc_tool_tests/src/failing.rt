@@ -1,6 +1,6 @@
 // One failing call at each place of a render and of an audit.
-use crate::render_tests::{NAMES, REFUSED};
-use crate::tests::{Case, expect, expect_all};
+use crate::cases::{Case, expect, expect_all};
+use crate::renders::{NAMES, REFUSED};
 use std::alloc::AllocGlobal;
 use std::process::Abort;
 use std::test::Fail;

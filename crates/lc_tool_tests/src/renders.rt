@@ -1,5 +1,5 @@
 // Renders over a desk in memory, and pictures of the sum over all lights.
-use crate::tests::{Case, NOTHING, USAGE, desk_of, expect_all, serve};
+use crate::cases::{Case, NOTHING, USAGE, desk_of, expect_all, serve};
 use lc_desk::{MemoryDesk, Slot};
 use std::process::Abort;
 use std::test::Fail;

@@ -1,5 +1,5 @@
 // The limits of the readers, each on both sides.
-use crate::render_tests::{CUBE, CUBE_MATERIAL};
+use crate::renders::{CUBE, CUBE_MATERIAL};
 use lc_job::{JobStop, read_job};
 use lc_light::{LightStop, read_lights};
 use lc_mtl::{Materials, MtlStop, read_mtl};

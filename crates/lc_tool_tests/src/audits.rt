@@ -1,6 +1,6 @@
 // Audits over a desk in memory.
-use crate::render_tests::{DARK_AND_BRIGHT, NAMES, REFUSED, SECOND_RULE, VIEW};
-use crate::tests::{Case, USAGE, desk_of, expect, expect_all, expect_over, serve};
+use crate::cases::{Case, USAGE, desk_of, expect, expect_all, expect_over, serve};
+use crate::renders::{DARK_AND_BRIGHT, NAMES, REFUSED, SECOND_RULE, VIEW};
 use lc_desk::{MemoryDesk, Slot};
 use lc_num::Memory;
 use std::alloc::Global;

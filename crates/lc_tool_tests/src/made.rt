@@ -4,8 +4,8 @@ ghost use Rattle.std.proofs.Common.{All};
 ghost use Rattle.lc_num.specs.Vectors.{Within};
 ghost use Rattle.lc_geom.specs.Triangles.{IsTri};
 
-use crate::render_tests::expect_size;
-use crate::tests::serve;
+use crate::cases::serve;
+use crate::renders::expect_size;
 use lc_desk::{MemoryDesk, Slot};
 use lc_geom::{Tri, Triangles};
 use lc_hier::{Hier, Plain};

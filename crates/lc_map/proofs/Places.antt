@@ -45,11 +45,12 @@ parts-all xs g bound rises part zero = (omega arith, let none : bound 0 - bound 
 parts-all xs g bound rises part (suc m) =
     let before = parts-all xs g bound rises part m in
     let up : bound m ≤ bound (m + 1) = rises m in
-    let e : m + 1 ≡ suc m = add-one m in
-    (subst (λ n. bound 0 ≤ bound n) e (omega (arith, before.0, up)),
-    subst (λ n. firsts g n ≡ slice_range xs (bound 0) (bound n)) e
-    (firsts-more g m ∙ ap (λ l. l ++ g m) before.1 ∙ ap (λ l. slice_range xs (bound 0) (bound m) ++ l) (part m)
-    ∙ parts-join xs (bound 0) (bound m) (bound (m + 1)) before.0 up))
+    let e : m + 1 ≡ suc m = add-one m in (
+      subst (λ n. bound 0 ≤ bound n) e (omega (arith, before.0, up)),
+      subst (λ n. firsts g n ≡ slice_range xs (bound 0) (bound n)) e
+          (firsts-more g m ∙ ap (λ l. l ++ g m) before.1 ∙ ap (λ l. slice_range xs (bound 0) (bound m) ++ l) (part m)
+          ∙ parts-join xs (bound 0) (bound m) (bound (m + 1)) before.0 up),
+    )
 
 module _ (kept : Record) where
   abbrev width : ℕ
@@ -62,35 +63,35 @@ module _ (kept : Record) where
   row-part : (row : ℕ) → firsts (samples_at kept row) width ≡ lines_from kept (row * width) ((row + 1) * width)
   row-part row =
       let all = parts-all kept.lines (samples_at kept row) (λ col. (row * width + col) * each)
-          (λ col. mul-le-mul_right each (le_add row col)) (λ col. ap (λ n. slice_range kept.lines ((row * width + col) * each) (n * each)) (add_assoc row col)) width in
+      (λ col. mul-le-mul_right each (le_add row col)) (λ col. ap (λ n. slice_range kept.lines ((row * width + col) * each) (n * each)) (add_assoc row col)) width in
       all.1 ∙ ap (λ n. slice_range kept.lines (n * each) ((row * width + width) * each)) (add_none row)
       ∙ ap (λ n. slice_range kept.lines (row * width * each) (n * each)) (next_row row) where
-    le_add : (row col : ℕ) → row * width + col ≤ row * width + (col + 1)
-    le_add row col = omega arith
+        le_add : (row col : ℕ) → row * width + col ≤ row * width + (col + 1)
+        le_add row col = omega arith
 
-    add_assoc : (row col : ℕ) → row * width + col + 1 ≡ row * width + (col + 1)
-    add_assoc row col = omega arith
+        add_assoc : (row col : ℕ) → row * width + col + 1 ≡ row * width + (col + 1)
+        add_assoc row col = omega arith
 
-    add_none : (row : ℕ) → row * width + 0 ≡ row * width
-    add_none row = omega arith
+        add_none : (row : ℕ) → row * width + 0 ≡ row * width
+        add_none row = omega arith
 
-    next_row : (row : ℕ) → row * width + width ≡ (row + 1) * width
-    next_row row = grind arith
+        next_row : (row : ℕ) → row * width + width ≡ (row + 1) * width
+        next_row row = grind arith
 
   -- the samples of all pixels
   pub all-parts : (text : List ℕ) → IsTextOf kept.header kept.lines text → firsts (λ row. firsts (samples_at kept row) width) kept.header.height ≡ kept.lines
   all-parts text is =
       let all = parts-all kept.lines (λ row. firsts (samples_at kept row) width) (λ row. row * width * each)
-          (λ row. mul-le-mul_right each (mul-le-mul_right width (le_more row))) row-part kept.header.height in
+      (λ row. mul-le-mul_right each (mul-le-mul_right width (le_more row))) row-part kept.header.height in
       let none : 0 * width * each ≡ 0 = grind arith in
       let count : kept.header.height * width * each ≡ length kept.lines = turned kept.header.height width each ∙ sym is.count in
       all.1 ∙ ap (λ n. slice_range kept.lines n (kept.header.height * width * each)) none
       ∙ ap (λ n. take n kept.lines) (less_none (kept.header.height * width * each) ∙ count) ∙ take-length kept.lines where
-    less_none : (n : ℕ) → n - 0 ≡ n
-    less_none n = omega arith
+        less_none : (n : ℕ) → n - 0 ≡ n
+        less_none n = omega arith
 
-    le_more : (row : ℕ) → row ≤ row + 1
-    le_more row = omega arith
+        le_more : (row : ℕ) → row ≤ row + 1
+        le_more row = omega arith
 
-    turned : (h w n : ℕ) → h * w * n ≡ w * h * n
-    turned h w n = grind arith
+        turned : (h w n : ℕ) → h * w * n ≡ w * h * n
+        turned h w n = grind arith

@@ -1,23 +1,22 @@
 -- What the status of a run says of its end.
-use Rattle.std.proofs.Common.{◌≡◌, ◌≢◌, ◌⊎◌, ◌↔◌, ℕ, zero, suc, List, [], ◌∷◌, refl, sym, ◌∙◌, ap, subst, arith, inl, inr, Option, Some, None, IfSome, Result, Ok, Err, IsTrue, Contains, append-nil}
+use Rattle.std.proofs.Common.{◌≡◌, ◌≢◌, ◌⊎◌, ◌↔◌, ℕ, zero, suc, List, [], refl, sym, ◌∙◌, ap, subst, arith, inl, inr, Option, Some, None, IfSome, Result, Ok, Err, IsTrue, Contains, append-nil}
 use Rattle.std.proofs.lemmas.List.Elements.{All-nil, All-cons}
 use Rattle.lc_num.specs.Faults.{Fault}
-use Rattle.lc_desk.specs.Calls.{Made, after_calls, begins_of, slot_of}
+use Rattle.lc_desk.specs.Calls.{Made, after_calls, begins_of}
 use Rattle.lc_desk.specs.Desk.{DeskState, Files, fault_at}
 use Rattle.lc_desk.specs.Causes.{Rose}
 use Rattle.lc_desk.specs.declared.desk.Slot.{Slot}
 use Rattle.lc_desk.specs.declared.desk.Slot.TheVariants.{Picture, Bounds, Report, Note}
 use Rattle.lc_desk.specs.declared.desk.PutStop.TheVariants as put_stop
 use Rattle.lc_desk.proofs.CallLemmas.{later_then, refused_on}
-use Rattle.lc_frame.specs.Files.{LeftPart, picture_file}
+use Rattle.lc_frame.specs.Files.{picture_file}
 use Rattle.lc_frame.specs.Stops.{StoppedIn}
 use Rattle.lc_frame.specs.declared.stop.FrameStop.{FrameStop}
 use Rattle.lc_frame.specs.declared.stop.FrameStop.TheVariants as frame
-use Rattle.lc_record.specs.Reading.{IsTextOf}
 use Rattle.lc_record.specs.Readings.{record_in}
 use Rattle.lc_record.specs.declared.reader.Record.{Record}
 use Rattle.lc_record.proofs.Told.{text_read, text_told}
-use Rattle.lc_tool.specs.Course.{Course, at_once, goes_on, told}
+use Rattle.lc_tool.specs.Course.{Course, at_once, told}
 use Rattle.lc_tool.specs.Ends.{BrokenBy, Ends, Finished, OpensOnly, SameOutputs, no_faults, write_line}
 use Rattle.lc_tool.specs.Lines.{record_limit}
 use Rattle.lc_tool.specs.Noted.{Noted, Said}
@@ -204,8 +203,8 @@ map_gives : (order : Order) (files : Files) (work : Work) → (map_course order 
 map_gives order files work e =
     let t = went_through (kept_of order.source files) (λ kept. at_once (Ok (map_work order kept))) work e in
     (t.value, kept_holds order.source files t.value t.stepped, sym (same_work (map_work order t.value) work t.went)) where
-  same_work : (a b : Work) → (at_once (Ok a)).end ≡ Ok b → a ≡ b
-  same_work a b e = ok_same a b e
+      same_work : (a b : Work) → (at_once (Ok a)).end ≡ Ok b → a ≡ b
+      same_work a b e = ok_same a b e
 
 module _ (words : List (List ℕ)) (before now : DeskState) (order : Order) where
   ends_of : (status : Status) → order_of words ≡ Some order → Runs (order_of words) status (outcome words before.held) before now → Ends status picture_file (told (map_course order) before.held) before now

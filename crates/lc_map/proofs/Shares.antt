@@ -1,5 +1,5 @@
 -- Shares rise with their bytes, and how a bound is compared with them.
-use Rattle.std.proofs.Common.{◌≡◌, ◌⊎◌, ◌↔◌, ℕ, zero, suc, ◌+◌, ◌-◌, ◌*◌, ◌/◌, ◌%◌, ◌^◌, ◌<◌, ◌≤◌, ◌&&◌, min, nat_le, nat_lt, Bool, true, false, refl, sym, ◌∙◌, ap, inl, inr, arith, ⊎_elim, subst, le_antisymm}
+use Rattle.std.proofs.Common.{◌≡◌, ◌⊎◌, ℕ, zero, suc, ◌+◌, ◌-◌, ◌*◌, ◌/◌, ◌%◌, ◌^◌, ◌<◌, ◌≤◌, min, nat_le, false, refl, sym, ◌∙◌, ap, inl, inr, arith, ⊎_elim}
 use Rattle.std.proofs.lemmas.Bool.{cases_eq, cases_lt}
 use Rattle.std.proofs.lemmas.Bool.Decides.{nat_tests}
 use Rattle.std.proofs.lemmas.Nat.{le-div, shl_whole}
@@ -135,7 +135,7 @@ reached-within est bound some_est some_bound = greatest-same (λ byte. nat_le (s
       ⊎_elim
       (λ (less : 32_000 * bound < share_of j * est).
       let above : 32_000 * bound / est < share_of j =
-          ⊎_elim (λ (l : 32_000 * bound / est < share_of j). l) (λ (m : share_of j ≤ 32_000 * bound / est). absurd (let p = both.0 m in omega (arith, p))) (cases_lt (32_000 * bound / est) (share_of j)) in
+      ⊎_elim (λ (l : 32_000 * bound / est < share_of j). l) (λ (m : share_of j ≤ 32_000 * bound / est). absurd (let p = both.0 m in omega (arith, p))) (cases_lt (32_000 * bound / est) (share_of j)) in
       grind (arith, nat_tests))
       (λ (more : share_of j * est ≤ 32_000 * bound). let within : share_of j ≤ 32_000 * bound / est = both.1 more in grind (arith, nat_tests))
       (cases_lt (32_000 * bound) (share_of j * est))
@@ -149,5 +149,5 @@ share-doubles byte =
     let same : (byte + 16) % 16 ≡ byte % 16 = omega arith in
     let power : 2 ^ suc (byte / 16) ≡ 2 * 2 ^ (byte / 16) = omega arith in
     rw (up, same, power) (twice (2 ^ (byte / 16)) (16 + byte % 16)) where
-  twice : (p n : ℕ) → 2 * p * n ≡ 2 * (p * n)
-  twice p n = grind arith
+      twice : (p n : ℕ) → 2 * p * n ≡ 2 * (p * n)
+      twice p n = grind arith

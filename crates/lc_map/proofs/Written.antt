@@ -3,7 +3,7 @@ use Rattle.std.proofs.Common.{◌≡◌, ℕ, ◌+◌, ◌<◌, List, [], ◌∷
 use Rattle.std.specs.List.{range_with_len}
 use Rattle.std.proofs.lemmas.List.Elements.{All-nil, All-cons}
 use Rattle.lc_desk.specs.Calls.{AreOn, BrokeOff, Call, Made, after_calls, begin, put, slot_of}
-use Rattle.lc_desk.specs.Desk.{DeskState, SlotState, Slots, appended, opened}
+use Rattle.lc_desk.specs.Desk.{DeskState, Slots, appended, opened}
 use Rattle.lc_desk.specs.declared.desk.PutStop.{PutStop}
 use Rattle.lc_desk.specs.declared.desk.PutStop.TheVariants as put_stop
 use Rattle.lc_desk.specs.declared.desk.Slot.TheVariants.{Picture}

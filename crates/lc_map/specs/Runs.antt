@@ -4,7 +4,6 @@ use Rattle.lc_desk.specs.Causes.{Rose}
 use Rattle.lc_desk.specs.Desk.{DeskState}
 use Rattle.lc_frame.specs.Files.{picture_file}
 use Rattle.lc_frame.specs.declared.stop.FrameStop.{FrameStop}
-use Rattle.lc_frame.specs.declared.stop.FrameStop.TheVariants as frame
 use Rattle.lc_tool.specs.Course.{Course}
 use Rattle.lc_tool.specs.Ends.{BrokenBy, Ends, Finished, write_line}
 use Rattle.lc_tool.specs.Noted.{Noted, Said}

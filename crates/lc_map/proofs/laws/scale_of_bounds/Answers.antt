@@ -1,4 +1,4 @@
-use Rattle.std.proofs.Common.{◌≡◌, ◌↔◌, ℕ, ◌*◌, ◌≤◌, ◌<◌, Bool, false, arith}
+use Rattle.std.proofs.Common.{◌≡◌, ℕ, false, arith}
 use Rattle.std.proofs.lemmas.Bool.Decides.{nat_tests}
 use Rattle.std.specs.List.{list_any}
 use Rattle.lc_algebra.proofs.Greatest.{greatest_up_to-greatest}

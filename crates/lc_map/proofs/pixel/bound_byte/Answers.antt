@@ -1,4 +1,4 @@
-use Rattle.std.proofs.Common.{◌≡◌, ◌∙◌, ℕ, List, ap, arith, length, take, get_or, max, rules}
+use Rattle.std.proofs.Common.{◌≡◌, ◌∙◌, List, ap, arith, length, take, max, rules}
 use Rattle.std.specs.List.{list_any}
 use Rattle.std.proofs.Math.Seq.{take-length}
 use Rattle.lc_algebra.specs.Greatest.{greatest_up_to}

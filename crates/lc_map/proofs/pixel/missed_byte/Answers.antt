@@ -1,4 +1,4 @@
-use Rattle.std.proofs.Common.{arith, rules}
+use Rattle.std.proofs.Common.{arith}
 use Rattle.std.proofs.lemmas.Grind.{common_steps}
 use Rattle.lc_map.specs.Map.{missed_byte}
 use Rattle.lc_map.proofs.pixel.missed_byte.Goals as goal

@@ -1,7 +1,7 @@
 use Rattle.std.proofs.Common.{◌≡◌, ◌≤◌, ◌*◌, ◌/◌, ℕ, List, length, sum_by, take, All, arith, rules}
 use Rattle.std.proofs.lemmas.Grind.{common_steps}
 use Rattle.std.proofs.lemmas.List.Elements.{All-weaker}
-use Rattle.std.proofs.lemmas.List.Sums.{sum_by-le, sum_by_more_le, sum_by-take-le}
+use Rattle.std.proofs.lemmas.List.Sums.{sum_by-le, sum_by-take-le}
 use Rattle.std.proofs.Math.Nat.{div-le_of_le-mul, mul-le-mul}
 use Rattle.lc_rated.specs.declared.answer.Answer.{Answer}
 use Rattle.lc_record.specs.Record.{IsSample}

@@ -1,4 +1,4 @@
-use Rattle.std.proofs.Common.{◌≡◌, sym, subst, Some}
+use Rattle.std.proofs.Common.{subst}
 use Rattle.lc_tool.specs.Words.{texts}
 use Rattle.lc_tool.specs.declared.status.Status.{Status}
 use Rattle.lc_map.specs.Outcome.{outcome}

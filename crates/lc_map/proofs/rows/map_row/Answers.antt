@@ -1,4 +1,4 @@
-use Rattle.std.proofs.Common.{◌≡◌, ◌++◌, ◌∙◌, ℕ, ap, arith, sym}
+use Rattle.std.proofs.Common.{◌≡◌, ◌++◌, ◌∙◌, ap, arith, sym}
 use Rattle.lc_frame.proofs.LoopLemmas.{firsts, firsts-more}
 use Rattle.lc_map.specs.Map.{byte_of, grey, pixel_bytes, row_bytes}
 use Rattle.lc_map.proofs.rows.map_row.Goals as goal

@@ -1,6 +1,6 @@
 use Rattle.std.proofs.Common.{◌≡◌, ◌<◌, ◌∙◌, arith, sym, ap, ℕ, nat_le}
 use Rattle.lc_algebra.specs.Greatest.{greatest_up_to}
-use Rattle.lc_map.specs.Scale.{reaches, share_of}
+use Rattle.lc_map.specs.Scale.{share_of}
 use Rattle.lc_map.proofs.Shares.{reached-all, reached-none, reached-within}
 use Rattle.lc_map.proofs.scale.byte_reached.Goals as goal
 

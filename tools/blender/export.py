@@ -165,7 +165,8 @@ class Scene:
     def add(self, thing, matrix):
         """The triangles of an object, as Blender divides its faces."""
         mesh = thing.to_mesh()
-        mesh.calc_normals_split()
+        if hasattr(mesh, "calc_normals_split"):  # Blender before 4.1
+            mesh.calc_normals_split()
         mesh.calc_loop_triangles()
         places = [upright(matrix @ v.co) for v in mesh.vertices]
         known, loops = corner_normals(mesh, matrix.to_3x3().inverted_safe().transposed())
@@ -191,7 +192,7 @@ class Scene:
                 self.lines.append("usemtl " + name)
                 used = name
             corners = [str(self.places + v + 1) for v in triangle.vertices]
-            if triangle.use_smooth or mesh.use_auto_smooth:
+            if triangle.use_smooth or own_normals(mesh):
                 corners = [f"{v}//{self.normals + loops[loop] + 1}" for v, loop in zip(corners, triangle.loops)]
             self.lines.append("f " + " ".join(corners))
 
@@ -199,9 +200,14 @@ class Scene:
         return "\n".join(self.lines) + "\n"
 
 
+def own_normals(mesh):
+    """Whether flat faces too are rendered by the normals of their corners."""
+    return getattr(mesh, "use_auto_smooth", False)
+
+
 def corner_normals(mesh, turned):
     """The normals of all corners of a mesh with smooth faces: each once, and for each corner which of these it has."""
-    if not mesh.use_auto_smooth and not any(p.use_smooth for p in mesh.polygons):
+    if not own_normals(mesh) and not any(p.use_smooth for p in mesh.polygons):
         return {}, []
     known = {}
     texts = (spelled(upright((turned @ loop.normal).normalized())) for loop in mesh.loops)
@@ -252,6 +258,9 @@ def sun_line(name, light, matrix, colour):
     fields = intensity(name, colour, math.pi)
     if light.angle > 0:
         note("the angle is left out, shadows are sharp, of suns", name)
+    if not any(toward):
+        note("no direction: left out are the lights", name)
+        return None
     return fields and f"sun {spelled(toward)} {fields}"
 
 
@@ -327,7 +336,7 @@ def camera_lines(scene, camera):
     frame = lens.view_frame(scene=scene)
     view = (max(v.x for v in frame) - min(v.x for v in frame)) / 2.0 / -frame[0].z
     far = next((d for d in (1000.0, 100.0, 10.0, 1.0) if inside(upright(eye + ahead * d))), None)
-    if not inside(upright(eye)) or far is None or not 0.0001 <= view <= 10.0:
+    if not inside(upright(eye)) or far is None or not 0.0001 <= view <= 10.0 or not ahead.cross(up).length:
         note("no job is written, as its place or its lens is out of range: the camera", camera.name)
         return None
     if lens.shift_x or lens.shift_y or lens.dof.use_dof:

@@ -1,6 +1,6 @@
 // A job file read line by line.
 ghost use Rattle.std.specs.Prelude.{◌≡◌, ◌≤◌, length, None, IfOk, IfErr};
-ghost use Rattle.lc_scan.specs.LineTests.{first_kind, IsPassed};
+ghost use Rattle.lc_scan.specs.LineTests.{first_kind, IsTested};
 ghost use Rattle.lc_scan.specs.Spoken.{spoken};
 ghost use Rattle.lc_view.specs.Camera.{IsCamera};
 ghost use Rattle.lc_job.specs.Jobs.{IsJob, has_twins, looks, job_tests};
@@ -60,7 +60,7 @@ fn has_twins(job: &Job) -> bool
 
 fn test_whole(job: &Job) -> Result<(), Kind>
     requires { IsJob job.now }
-    ensures { IsPassed (first_kind (job_tests job.now)) result }
+    ensures { IsTested (first_kind (job_tests job.now)) result }
 {
     if !looks(&job.camera) {
         return Err(Kind::NoView);

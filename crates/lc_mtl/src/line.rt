@@ -2,7 +2,7 @@
 ghost use Rattle.std.specs.Prelude.{◌≡◌, ◌+◌, ◌≤◌, [], ◌∷◌, Some, None};
 ghost use Rattle.lc_scan.specs.Fields.{fields, rest};
 ghost use Rattle.lc_mtl.specs.Settings.{grey};
-ghost use Rattle.lc_scan.specs.LineTests.{first_kind, IsAnswer, IsPassed};
+ghost use Rattle.lc_scan.specs.LineTests.{first_kind, IsAnswer, IsTested};
 ghost use Rattle.lc_mtl.specs.MtlLine.{begun_test, name_test, room_test, form_test, number_test, colour_tests, exponent_tests, tests, share, colour, exponent, entry_by, entry_of, kind_of};
 
 use crate::entry::{Entry, Setting};
@@ -17,7 +17,7 @@ const MOST_MATERIALS: usize = 4_096;
 
 /// Whether a material can begin that has this name, after so many.
 fn test_begin(name: &[u8], so_far: usize) -> Result<(), Kind>
-    ensures { IsPassed (first_kind (name_test name.now ∷ room_test so_far ∷ [])) result }
+    ensures { IsTested (first_kind (name_test name.now ∷ room_test so_far ∷ [])) result }
 {
     if name.is_empty() {
         return Err(Kind::Name);
@@ -29,7 +29,7 @@ fn test_begin(name: &[u8], so_far: usize) -> Result<(), Kind>
 }
 
 fn test_begun(begun: usize) -> Result<(), Kind>
-    ensures { IsPassed (begun_test begun) result }
+    ensures { IsTested (begun_test begun) result }
 {
     if begun == 0 {
         return Err(Kind::NoMaterial);
@@ -38,7 +38,7 @@ fn test_begun(begun: usize) -> Result<(), Kind>
 }
 
 fn test_form(value: &[u8]) -> Result<(), Kind>
-    ensures { IsPassed (form_test value.now) result }
+    ensures { IsTested (form_test value.now) result }
 {
     if value == b"spectral".as_slice() || value == b"xyz".as_slice() {
         return Err(Kind::Colour);

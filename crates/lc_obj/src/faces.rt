@@ -2,7 +2,7 @@
 ghost use Rattle.std.specs.Prelude.{◌≡◌, ◌-◌, ◌+◌, ◌<◌, ◌≤◌, [], ◌∷◌, ◌++◌, length, drop, filter, None, IfErr, IfOk, OnOk};
 ghost use Rattle.lc_geom.specs.Triangles.{IsTri};
 ghost use Rattle.lc_obj.specs.Corners.{AreTables, corner_of, corner_tests};
-ghost use Rattle.lc_scan.specs.LineTests.{first_kind, IsAnswer, IsPassed};
+ghost use Rattle.lc_scan.specs.LineTests.{first_kind, IsAnswer, IsTested};
 ghost use Rattle.lc_obj.specs.ObjLine.{corners_tests, face, face_tests, faces_in, field, is_kept, three_normals, three_uvs};
 ghost use Rattle.lc_obj.specs.Readings.{IsLineStop};
 
@@ -77,7 +77,7 @@ fn corner(values: &mut Fields, given: &Tables) -> Result<Corner, Kind>
 }
 
 fn test_corners(values: &mut Fields, given: &Tables) -> Result<(), Kind>
-    ensures { IsPassed (first_kind (corners_tests given.now values.old)) result }
+    ensures { IsTested (first_kind (corners_tests given.now values.old)) result }
 {
     while let Some(value) = values.next_field() {
         corner_in(value, given)?;

@@ -1,12 +1,12 @@
 -- One line of a light file: its source of light, and the tests that it has to pass.
-use Rattle.std.specs.Prelude.{ℕ, ◌+◌, ◌==◌, ◌&&◌, nat_lt, nat_le, List, [], ◌∷◌, ◌++◌, length, Option, Some, None, option_map, Result, Ok, Err, ℤ, pos, negsuc, unsigned_abs, if◌then◌else◌, codes, slice_index_or}
-use Rattle.std.specs.Str.{bytes_eq}
+use Rattle.std.specs.Prelude.{ℕ, ◌+◌, ◌==◌, ◌&&◌, nat_lt, nat_le, List, [], ◌∷◌, ◌++◌, length, Option, Some, None, option_map, Result, Ok, Err, ℤ, pos, negsuc, unsigned_abs, codes, slice_index_or}
 use Rattle.lc_num.specs.declared.vectors.Vec3.{Vec3}
 use Rattle.lc_num.specs.declared.channels.Power.{Power}
 use Rattle.lc_num.specs.Vectors.{square}
 use Rattle.lc_num.specs.Cosines.{scaled}
 use Rattle.lc_scan.specs.Decimal.{decimal_of, units}
 use Rattle.lc_scan.specs.Whole.{whole_of}
+use Rattle.lc_scan.specs.Keywords.{look_up}
 use Rattle.lc_scan.specs.LineTests.{first_kind, unless}
 use Rattle.lc_scan.specs.declared.fault.NumFault.{NumFault}
 use Rattle.lc_light.specs.Areas.{has_places, spans}
@@ -23,11 +23,13 @@ use Rattle.lc_light.specs.declared.kind.Kind.TheVariants as kind
 
 -- ---- the source that a line names: its keyword is the first field, its values are the others
 
+-- the keywords, each with its word
+abbrev pub keywords : List (List ℕ × Keyword)
+keywords = (codes "point", keyword.Point) ∷ (codes "sun", keyword.Sun) ∷ (codes "area", keyword.Area) ∷ []
+
+-- the keyword that a field is, if it is one
 unfoldable pub keyword_of : List ℕ → Option Keyword
-keyword_of word =
-    if bytes_eq word (codes "point")
-    then Some keyword.Point
-    else (if bytes_eq word (codes "sun") then Some keyword.Sun else (if bytes_eq word (codes "area") then Some keyword.Area else None))
+keyword_of word = look_up keywords word
 
 -- the k-th value as a number
 abbrev pub number : ℕ → List (List ℕ) → Result ℤ NumFault

@@ -3,6 +3,7 @@ use Rattle.std.specs.Prelude.{ℕ, ◌+◌, ◌/◌, ◌||◌, nat_lt, min, List
 use Rattle.std.specs.Str.{bytes_eq}
 use Rattle.lc_num.specs.declared.channels.Colour.{Colour}
 use Rattle.lc_scan.specs.Decimal.{decimal_of}
+use Rattle.lc_scan.specs.Keywords.{look_up}
 use Rattle.lc_scan.specs.LineTests.{first_kind, unless}
 use Rattle.lc_scan.specs.declared.fault.NumFault.{NumFault}
 use Rattle.lc_mtl.specs.Settings.{grey}
@@ -16,14 +17,15 @@ use Rattle.lc_mtl.specs.declared.kind.Kind.TheVariants as kind
 
 -- ---- what a line says: its keyword is the first field, its values are the others
 
--- lines of other keywords are passed over
+-- the keywords, each with its word
+abbrev pub keywords : List (List ℕ × Keyword)
+keywords =
+    (codes "newmtl", keyword.Material) ∷ (codes "Kd", keyword.Diffuse) ∷ (codes "Ks", keyword.Specular)
+    ∷ (codes "Ns", keyword.Exponent) ∷ []
+
+-- the keyword that a field is, if it is one; lines of others are passed over
 unfoldable pub keyword_of : List ℕ → Option Keyword
-keyword_of word =
-    if bytes_eq word (codes "newmtl")
-    then Some keyword.Material
-    else (if bytes_eq word (codes "Kd")
-    then Some keyword.Diffuse
-    else (if bytes_eq word (codes "Ks") then Some keyword.Specular else (if bytes_eq word (codes "Ns") then Some keyword.Exponent else None)))
+keyword_of word = look_up keywords word
 
 abbrev pub units_of : Result ℤ NumFault → ℕ
 units_of (Ok z) = unsigned_abs z

@@ -8,8 +8,8 @@ ghost use Rattle.lc_job.specs.JobFile.{draft_of, fault_in, first_stop, job_in};
 ghost use Rattle.lc_job.specs.Stops.{IsFault, IsMissing, IsOfLine};
 
 use crate::draft::Draft;
+use crate::fault_kind::FaultKind;
 use crate::job::Job;
-use crate::kind::Kind;
 use crate::line::entry_in;
 use crate::stop::JobStop;
 use lc_num::{cross, difference, square};
@@ -58,15 +58,15 @@ fn has_twins(job: &Job) -> bool
         || picture == bounds
 }
 
-fn test_whole(job: &Job) -> Result<(), Kind>
+fn test_whole(job: &Job) -> Result<(), FaultKind>
     requires { IsJob job.now }
     ensures { IsTested (first_kind (job_tests job.now)) result }
 {
     if !looks(&job.camera) {
-        return Err(Kind::NoView);
+        return Err(FaultKind::NoView);
     }
     if has_twins(job) {
-        return Err(Kind::SameNames);
+        return Err(FaultKind::SameNames);
     }
     Ok(())
 }

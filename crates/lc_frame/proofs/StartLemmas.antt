@@ -27,11 +27,11 @@ pub start-is : (slot : Slot) (name named head headed : List ℕ) → name ≡ na
 start-is slot name named head headed n h = ap (λ x. starting (begin slot x) (put slot head)) n ∙ ap (λ x. starting (begin slot named) (put slot x)) h
 
 -- the starts of both files, by what their names and headers are
-module _ (job : Job) (name picture other log : List ℕ) (named : name ≡ job.picture) (pictured : picture ≡ tone.header_bytes job.camera.width job.camera.height) (called : other ≡ job.bounds) (logged : log ≡ record_of.header_bytes (header_of job)) where
+module _ (job : Job) (name picture other log : List ℕ) (named : name ≡ job.picture) (pictured : picture ≡ tone.header_bytes job.camera.width job.camera.height) (called : other ≡ job.bounds) (logged : log ≡ record_of.record_header (header_of job)) where
   first_start : starting (begin Picture name) (put Picture picture) ≡ starting (begin Picture job.picture) (put Picture (tone.header_bytes job.camera.width job.camera.height))
   first_start = start-is Picture name job.picture picture _ named pictured
 
-  second_start : starting (begin Bounds other) (put Bounds log) ≡ starting (begin Bounds job.bounds) (put Bounds (record_of.header_bytes (header_of job)))
+  second_start : starting (begin Bounds other) (put Bounds log) ≡ starting (begin Bounds job.bounds) (put Bounds (record_of.record_header (header_of job)))
   second_start = start-is Bounds other job.bounds log _ called logged
 
   opening-is : starting (begin Picture name) (put Picture picture) ++ starting (begin Bounds other) (put Bounds log) ≡ opening job

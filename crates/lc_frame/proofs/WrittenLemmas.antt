@@ -48,7 +48,7 @@ module _ (job : Job) (rows : List (List (List Answer))) where
   head = tone.header_bytes job.camera.width job.camera.height
 
   abbrev log : List ℕ
-  log = record_of.header_bytes (header_of job)
+  log = record_of.record_header (header_of job)
 
   abbrev tail : List Call
   tail = flat_map (row_calls job.white) rows
@@ -156,7 +156,7 @@ four_on name head log_name log =
 -- the calls of a render are on its two files
 pub calls_on : (job : Job) (rows : List (List (List Answer))) → AreOn files (render_calls job rows)
 unfolding render_calls
-calls_on job rows = AreOn-append files (opening job) (flat_map (row_calls job.white) rows) (four_on job.picture (tone.header_bytes job.camera.width job.camera.height) job.bounds (record_of.header_bytes (header_of job))) (rows_on job.white rows)
+calls_on job rows = AreOn-append files (opening job) (flat_map (row_calls job.white) rows) (four_on job.picture (tone.header_bytes job.camera.width job.camera.height) job.bounds (record_of.record_header (header_of job))) (rows_on job.white rows)
 
 -- ---- the other slots
 

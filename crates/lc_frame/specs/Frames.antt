@@ -10,7 +10,7 @@ use Rattle.lc_sample.specs.Sampled.{sample_of}
 use Rattle.lc_sample.specs.Scenes.{SceneParts}
 use Rattle.lc_tone.specs.Picture.{picture, pixel_bytes}
 use Rattle.lc_tone.specs.Tone as tone
-use Rattle.lc_record.specs.Record.{header_bytes, line_bytes, text}
+use Rattle.lc_record.specs.Record.{line_bytes, record_header, text}
 use Rattle.lc_record.specs.declared.head.Header.{Header}
 use Rattle.lc_frame.specs.declared.summary.Summary.{Summary}
 
@@ -61,7 +61,7 @@ picture_text job rows = picture job.camera.width job.camera.height job.white (ma
 abbrev pub opening : Job → List Call
 opening job =
     begin Picture job.picture ∷ put Picture (tone.header_bytes job.camera.width job.camera.height)
-    ∷ begin Bounds job.bounds ∷ put Bounds (header_bytes (header_of job)) ∷ []
+    ∷ begin Bounds job.bounds ∷ put Bounds (record_header (header_of job)) ∷ []
 
 -- a line of the record for each sample of a pixel
 abbrev pub lines_of : List Answer → List Call

@@ -5,7 +5,7 @@ ghost use Rattle.lc_desk.specs.Calls as call;
 ghost use Rattle.lc_desk.specs.Desk.{CanPut};
 ghost use Rattle.lc_job.specs.Jobs.{IsJob};
 ghost use Rattle.lc_tone.specs.Tone.{header_bytes as picture_header};
-ghost use Rattle.lc_record.specs.Record.{header_bytes as record_header};
+ghost use Rattle.lc_record.specs.Record.{record_header};
 ghost use Rattle.lc_frame.specs.Frames.{answers_of, evals_of, header_of, opening, render_calls, row_calls, samples, summary_of};
 ghost use Rattle.lc_frame.specs.Stops.{Broke, StoppedIn};
 

@@ -2,7 +2,7 @@
 ghost use Rattle.std.specs.Prelude.{◌≡◌, ◌*◌, ◌≤◌, [], IfOk, vec_capacity};
 ghost use Rattle.lc_job.specs.Jobs.{IsJob};
 ghost use Rattle.lc_tone.specs.Tone.{header_bytes as picture_header};
-ghost use Rattle.lc_record.specs.Record.{header_bytes as record_header};
+ghost use Rattle.lc_record.specs.Record.{record_header};
 ghost use Rattle.lc_frame.specs.Frames.{header_of};
 
 use lc_cut::Bench;

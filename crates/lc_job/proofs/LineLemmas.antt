@@ -12,7 +12,7 @@ use Rattle.lc_job.specs.Keys.{key_of}
 use Rattle.lc_job.specs.Stops.{IsLineStop}
 use Rattle.lc_job.specs.declared.entry.Entry.{Entry}
 use Rattle.lc_job.specs.declared.key.Key.{Key}
-use Rattle.lc_job.specs.declared.kind.Kind.TheVariants as kind
+use Rattle.lc_job.specs.declared.fault_kind.FaultKind.TheVariants as kind
 use Rattle.lc_job.specs.declared.stop.LineStop.{LineStop}
 
 -- ---- a name

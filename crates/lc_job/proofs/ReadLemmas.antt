@@ -7,12 +7,12 @@ use Rattle.lc_scan.proofs.ReaderLemmas as reader
 use Rattle.lc_job.specs.Drafts.{has, nothing_said, taken}
 use Rattle.lc_job.specs.JobLine.{entry_of, kind_of}
 use Rattle.lc_job.specs.JobFile.{draft_of, fault_in, fault_of}
-use Rattle.lc_job.specs.Kinds.{kind_number}
+use Rattle.lc_job.specs.FaultKinds.{kind_number}
 use Rattle.lc_job.specs.Stops.{IsLineStop, IsOfLine, stop_at}
 use Rattle.lc_job.specs.declared.draft.Draft.{Draft}
 use Rattle.lc_job.specs.declared.entry.Entry.{Entry}
 use Rattle.lc_job.specs.declared.key.Key.{Key}
-use Rattle.lc_job.specs.declared.kind.Kind.{Kind}
+use Rattle.lc_job.specs.declared.fault_kind.FaultKind.{FaultKind}
 use Rattle.lc_job.specs.declared.stop.LineStop.{LineStop}
 use Rattle.lc_job.specs.declared.stop.LineStop.TheVariants as line_stop
 use Rattle.lc_job.proofs.DraftLemmas.{has-stood, nothing, one_line_more}
@@ -31,7 +31,7 @@ start text left draft e d = record {
 }
 
 -- the judge of a line asks for the keywords that the draft has
-judged : (seen : List Line) (l : Line) (draft : Draft) (o : Option Kind) → draft ≡ draft_of seen → kind_of (λ k. has k draft) l.bytes ≡ o → fault_of seen l ≡ option_map kind_number o
+judged : (seen : List Line) (l : Line) (draft : Draft) (o : Option FaultKind) → draft ≡ draft_of seen → kind_of (λ k. has k draft) l.bytes ≡ o → fault_of seen l ≡ option_map kind_number o
 judged seen l draft o d e =
     let same : (k : Key) → has k draft ≡ has k (draft_of seen) = λ k. ap (has k) d in
     ap (option_map kind_number) (ap (λ (s : Key → Bool). kind_of s l.bytes) (sym (fun_ext (λ k. same k ∙ has-stood seen k))) ∙ e)

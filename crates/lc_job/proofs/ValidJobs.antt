@@ -19,7 +19,7 @@ use Rattle.lc_job.specs.Jobs.{IsJob}
 use Rattle.lc_job.specs.JobLine.{amount, amount_tests, are_decimals, are_wholes, decimal_at, is_amount, is_between, is_place, keyword_in, kind_by, kind_of, size, size_tests, tests, values_in, vector, vector_tests, whole_at, whole_number_tests}
 use Rattle.lc_job.specs.JobFile.{draft_by, draft_of, fault_in, fault_of, is_of, job_in, line_of, said, stood}
 use Rattle.lc_job.specs.Keys.{key_of, word}
-use Rattle.lc_job.specs.Kinds.{kind_number}
+use Rattle.lc_job.specs.FaultKinds.{kind_number}
 use Rattle.lc_job.specs.declared.entry.Size.{Size}
 use Rattle.lc_job.specs.declared.key.Key.{Key}
 use Rattle.lc_job.specs.declared.key.Key.TheVariants as key

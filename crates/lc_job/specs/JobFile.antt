@@ -12,12 +12,12 @@ use Rattle.lc_job.specs.Drafts.{made}
 use Rattle.lc_job.specs.JobLine.{amount, keyword_in, kind_of, rule, size, values_in, vector, whole_at}
 use Rattle.lc_job.specs.Jobs.{job_tests}
 use Rattle.lc_job.specs.Keys.{required, word}
-use Rattle.lc_job.specs.Kinds.{kind_number}
+use Rattle.lc_job.specs.FaultKinds.{kind_number}
 use Rattle.lc_job.specs.declared.draft.Draft.{Draft}
 use Rattle.lc_job.specs.declared.job.Job.{Job}
 use Rattle.lc_job.specs.declared.key.Key.{Key}
 use Rattle.lc_job.specs.declared.key.Key.TheVariants as key
-use Rattle.lc_job.specs.declared.kind.Kind.{Kind}
+use Rattle.lc_job.specs.declared.fault_kind.FaultKind.{FaultKind}
 use Rattle.lc_job.specs.declared.stop.JobStop.{JobStop}
 use Rattle.lc_job.specs.declared.stop.JobStop.TheVariants as stop
 
@@ -84,7 +84,7 @@ unfoldable pub missing : List Line → Option Key
 missing ls = find (λ k. not (stood ls k)) required
 
 -- the first test of the job as a whole that it fails
-abbrev pub kind_in : List ℕ → Option Kind
+abbrev pub kind_in : List ℕ → Option FaultKind
 kind_in text = first_kind (job_tests (job_in text))
 
 -- a faulty line comes before a missing keyword, and that before the tests of the whole, which tell of line 0
@@ -93,4 +93,4 @@ first_stop text =
     first_kind
     (option_map (λ (f : Fault). stop.Fault f.line f.kind) (fault_in text)
     ∷ option_map stop.Missing (missing (spoken text))
-    ∷ option_map (λ (k : Kind). stop.Fault 0 (kind_number k)) (kind_in text) ∷ [])
+    ∷ option_map (λ (k : FaultKind). stop.Fault 0 (kind_number k)) (kind_in text) ∷ [])

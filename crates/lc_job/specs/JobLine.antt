@@ -17,8 +17,8 @@ use Rattle.lc_job.specs.declared.entry.Entry.TheVariants as entry
 use Rattle.lc_job.specs.declared.entry.Size.{Size}
 use Rattle.lc_job.specs.declared.key.Key.{Key}
 use Rattle.lc_job.specs.declared.key.Key.TheVariants as key
-use Rattle.lc_job.specs.declared.kind.Kind.{Kind}
-use Rattle.lc_job.specs.declared.kind.Kind.TheVariants as kind
+use Rattle.lc_job.specs.declared.fault_kind.FaultKind.{FaultKind}
+use Rattle.lc_job.specs.declared.fault_kind.FaultKind.TheVariants as kind
 
 -- ---- what a line says: its keyword is the first field, its values are the others, and a name is its rest
 
@@ -98,20 +98,20 @@ abbrev pub is_amount : ℕ → ℤ → Bool
 is_amount most (pos n) = is_between 1 most n
 is_amount most (negsuc n) = false
 
-abbrev pub name_tests : List ℕ → List (Option Kind)
+abbrev pub name_tests : List ℕ → List (Option FaultKind)
 name_tests name = unless (nat_lt 0 (length name)) kind.Form ∷ unless (is_utf8 name) kind.Utf8 ∷ []
 
-abbrev pub vector_tests : List (List ℕ) → List (Option Kind)
+abbrev pub vector_tests : List (List ℕ) → List (Option FaultKind)
 vector_tests values = unless (are_decimals 3 values) kind.Form ∷ unless (is_place (vector values)) kind.Range ∷ []
 
-abbrev pub size_tests : List (List ℕ) → List (Option Kind)
+abbrev pub size_tests : List (List ℕ) → List (Option FaultKind)
 size_tests values =
     unless (are_wholes 2 values) kind.Form ∷ unless (is_between 1 4096 (whole_at 0 values) && is_between 1 4096 (whole_at 1 values)) kind.Range ∷ []
 
-abbrev pub amount_tests : ℕ → List (List ℕ) → List (Option Kind)
+abbrev pub amount_tests : ℕ → List (List ℕ) → List (Option FaultKind)
 amount_tests most values = unless (are_decimals 1 values) kind.Form ∷ unless (is_amount most (decimal_at 0 values)) kind.Range ∷ []
 
-abbrev pub whole_number_tests : ℕ → ℕ → List (List ℕ) → List (Option Kind)
+abbrev pub whole_number_tests : ℕ → ℕ → List (List ℕ) → List (Option FaultKind)
 whole_number_tests least most values = unless (are_wholes 1 values) kind.Form ∷ unless (is_between least most (whole_at 0 values)) kind.Range ∷ []
 
 -- the most samples on a side of a pixel
@@ -119,7 +119,7 @@ abbrev pub most_grid : ℕ
 most_grid = 16
 
 -- the tests of a keyword's name or values, in their order
-abbrev pub tests : Key → List ℕ → List (List ℕ) → List (Option Kind)
+abbrev pub tests : Key → List ℕ → List (List ℕ) → List (Option FaultKind)
 tests key.Scene name values = name_tests name
 tests key.Lights name values = name_tests name
 tests key.Picture name values = name_tests name
@@ -136,10 +136,10 @@ tests key.Cut name values = whole_number_tests 3 65536 values
 tests key.White name values = amount_tests 100000000 values
 tests key.Rule name values = whole_number_tests 1 2 values
 
-abbrev pub kind_by : (Key → Bool) → Option Key → List ℕ → List (List ℕ) → Option Kind
+abbrev pub kind_by : (Key → Bool) → Option Key → List ℕ → List (List ℕ) → Option FaultKind
 kind_by stood None name values = Some kind.Keyword
 kind_by stood (Some k) name values = first_kind (unless (not (stood k)) kind.Repeated ∷ tests k name values)
 
 -- the kind of the first test that a line fails, where these keywords stood before
-unfoldable pub kind_of : (Key → Bool) → List ℕ → Option Kind
+unfoldable pub kind_of : (Key → Bool) → List ℕ → Option FaultKind
 kind_of stood line = kind_by stood (key_of (keyword_in line)) (rest line) (values_in line)

@@ -6,8 +6,8 @@ use Rattle.lc_scan.specs.LineTests.{unless}
 use Rattle.lc_view.specs.Camera.{IsCamera}
 use Rattle.lc_view.specs.declared.camera.Camera.{Camera}
 use Rattle.lc_job.specs.declared.job.Job.{Job}
-use Rattle.lc_job.specs.declared.kind.Kind.{Kind}
-use Rattle.lc_job.specs.declared.kind.Kind.TheVariants as kind
+use Rattle.lc_job.specs.declared.fault_kind.FaultKind.{FaultKind}
+use Rattle.lc_job.specs.declared.fault_kind.FaultKind.TheVariants as kind
 
 pub record IsJob (job : Job) : Type 0 where
   pub camera : IsCamera job.camera
@@ -28,5 +28,5 @@ has_twins job =
     || bytes_eq job.lights job.bounds || bytes_eq job.picture job.bounds
 
 -- the tests of a job as a whole, in their order
-abbrev pub job_tests : Job → List (Option Kind)
+abbrev pub job_tests : Job → List (Option FaultKind)
 job_tests job = unless (looks job.camera) kind.NoView ∷ unless (not (has_twins job)) kind.SameNames ∷ []

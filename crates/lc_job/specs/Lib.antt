@@ -1,5 +1,5 @@
 pub mod Keys
-pub mod Kinds
+pub mod FaultKinds
 pub mod Stops
 pub mod Jobs
 pub mod Drafts

@@ -1,8 +1,8 @@
 -- Why a text is refused. Want of memory is free everywhere.
 use Rattle.std.specs.Prelude.{◌≡◌, ℕ, Option, Some}
 use Rattle.lc_num.specs.Faults.{Fault}
-use Rattle.lc_job.specs.Kinds.{kind_number}
-use Rattle.lc_job.specs.declared.kind.Kind.{Kind}
+use Rattle.lc_job.specs.FaultKinds.{kind_number}
+use Rattle.lc_job.specs.declared.fault_kind.FaultKind.{FaultKind}
 use Rattle.lc_job.specs.declared.stop.JobStop.{JobStop}
 use Rattle.lc_job.specs.declared.stop.JobStop.TheVariants as stop
 use Rattle.lc_job.specs.declared.stop.LineStop.{LineStop}
@@ -29,7 +29,7 @@ IsOfLine (stop.Fault line kind) fault = fault ≡ Some (record { line = line; ki
 IsOfLine (stop.Missing k) fault = ⊥
 
 -- a line's fault is its first one
-abbrev pub IsLineStop : LineStop → Option Kind → Type 0
+abbrev pub IsLineStop : LineStop → Option FaultKind → Type 0
 IsLineStop line_stop.Memory kind = Unit {0}
 IsLineStop (line_stop.Fault own) kind = kind ≡ Some own
 

@@ -22,6 +22,25 @@ pub enum Key {
     Rule,
 }
 
+/// All keywords, those that have to stand first.
+const KEYS: [Key; 15] = [
+    Key::Scene,
+    Key::Lights,
+    Key::Picture,
+    Key::Bounds,
+    Key::Eye,
+    Key::At,
+    Key::Size,
+    Key::Up,
+    Key::View,
+    Key::Grid,
+    Key::Seed,
+    Key::Error,
+    Key::Cut,
+    Key::White,
+    Key::Rule,
+];
+
 impl Key {
     /// The keyword as it stands in a file.
     pub fn word(&self) -> &'static str
@@ -46,42 +65,13 @@ impl Key {
         }
     }
 
+    /// The keyword that a field is, if it is one.
     #[tactic(auto, unfolding(crate::specs::Keys::key_of))]
     pub(crate) fn of(field: &[u8]) -> Option<Key>
         ensures { result ≡ key_of field.now }
     {
-        if field == b"scene".as_slice() {
-            Some(Key::Scene)
-        } else if field == b"lights".as_slice() {
-            Some(Key::Lights)
-        } else if field == b"picture".as_slice() {
-            Some(Key::Picture)
-        } else if field == b"bounds".as_slice() {
-            Some(Key::Bounds)
-        } else if field == b"eye".as_slice() {
-            Some(Key::Eye)
-        } else if field == b"at".as_slice() {
-            Some(Key::At)
-        } else if field == b"size".as_slice() {
-            Some(Key::Size)
-        } else if field == b"up".as_slice() {
-            Some(Key::Up)
-        } else if field == b"view".as_slice() {
-            Some(Key::View)
-        } else if field == b"grid".as_slice() {
-            Some(Key::Grid)
-        } else if field == b"seed".as_slice() {
-            Some(Key::Seed)
-        } else if field == b"error".as_slice() {
-            Some(Key::Error)
-        } else if field == b"cut".as_slice() {
-            Some(Key::Cut)
-        } else if field == b"white".as_slice() {
-            Some(Key::White)
-        } else if field == b"rule".as_slice() {
-            Some(Key::Rule)
-        } else {
-            None
-        }
+        KEYS.iter()
+            .copied()
+            .find(|key| field == key.word().as_bytes())
     }
 }

@@ -3,9 +3,9 @@
 
 mod draft;
 mod entry;
+mod fault_kind;
 mod job;
 mod key;
-mod kind;
 mod line;
 mod reader;
 mod stop;

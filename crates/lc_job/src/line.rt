@@ -8,8 +8,8 @@ ghost use Rattle.lc_job.specs.Stops.{IsLineStop};
 
 use crate::draft::Draft;
 use crate::entry::Entry;
+use crate::fault_kind::FaultKind;
 use crate::key::Key;
-use crate::kind::Kind;
 use crate::stop::LineStop;
 use crate::values::{amount, rule, size, vector, whole_within};
 use lc_num::Name;
@@ -38,10 +38,10 @@ fn name(alloc: Global, bytes: &[u8]) -> Result<Name, LineStop>
         (λ stop. IsLineStop stop (first_kind (name_tests bytes.now))) }
 {
     if bytes.is_empty() {
-        return Err(LineStop::Fault(Kind::Form));
+        return Err(LineStop::Fault(FaultKind::Form));
     }
     match name_of(alloc, bytes)? {
-        None => Err(LineStop::Fault(Kind::Utf8)),
+        None => Err(LineStop::Fault(FaultKind::Utf8)),
         Some(name) => Ok(name),
     }
 }
@@ -80,13 +80,13 @@ pub fn entry_in(alloc: Global, line: &[u8], before: &Draft) -> Result<Entry, Lin
 {
     let mut values = Fields::new(line);
     let Some(word) = values.next_field() else {
-        return Err(LineStop::Fault(Kind::Keyword));
+        return Err(LineStop::Fault(FaultKind::Keyword));
     };
     let Some(key) = Key::of(word) else {
-        return Err(LineStop::Fault(Kind::Keyword));
+        return Err(LineStop::Fault(FaultKind::Keyword));
     };
     if before.has(key) {
-        return Err(LineStop::Fault(Kind::Repeated));
+        return Err(LineStop::Fault(FaultKind::Repeated));
     }
     entry_by(alloc, key, rest(line), &mut values)
 }

@@ -1,6 +1,6 @@
 // A job file read line by line.
 ghost use Rattle.std.specs.Prelude.{◌≡◌, ◌≤◌, length, None, IfOk, IfErr};
-ghost use Rattle.lc_scan.specs.LineTests.{first_kind, IsPassed};
+ghost use Rattle.lc_scan.specs.LineTests.{first_kind, IsTested};
 ghost use Rattle.lc_scan.specs.Spoken.{spoken};
 ghost use Rattle.lc_view.specs.Camera.{IsCamera};
 ghost use Rattle.lc_job.specs.Jobs.{IsJob, has_twins, looks, job_tests};
@@ -8,8 +8,8 @@ ghost use Rattle.lc_job.specs.JobFile.{draft_of, fault_in, first_stop, job_in};
 ghost use Rattle.lc_job.specs.Stops.{IsFault, IsMissing, IsOfLine};
 
 use crate::draft::Draft;
+use crate::fault_kind::FaultKind;
 use crate::job::Job;
-use crate::kind::Kind;
 use crate::line::entry_in;
 use crate::stop::JobStop;
 use lc_num::{cross, difference, square};
@@ -58,15 +58,15 @@ fn has_twins(job: &Job) -> bool
         || picture == bounds
 }
 
-fn test_whole(job: &Job) -> Result<(), Kind>
+fn test_whole(job: &Job) -> Result<(), FaultKind>
     requires { IsJob job.now }
-    ensures { IsPassed (first_kind (job_tests job.now)) result }
+    ensures { IsTested (first_kind (job_tests job.now)) result }
 {
     if !looks(&job.camera) {
-        return Err(Kind::NoView);
+        return Err(FaultKind::NoView);
     }
     if has_twins(job) {
-        return Err(Kind::SameNames);
+        return Err(FaultKind::SameNames);
     }
     Ok(())
 }

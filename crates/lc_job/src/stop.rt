@@ -2,8 +2,8 @@
 ghost use Rattle.std.specs.Prelude.{◌≡◌};
 ghost use Rattle.lc_job.specs.Stops.{stop_at};
 
+use crate::fault_kind::FaultKind;
 use crate::key::Key;
-use crate::kind::Kind;
 use lc_num::Memory;
 
 /// Want of memory; the first faulty line and the kind of the first test that it fails, with line 0 for a test of the
@@ -30,7 +30,7 @@ impl From<Memory> for JobStop {
 #[derive(Clone, Copy)]
 pub enum LineStop {
     Memory,
-    Fault(Kind),
+    Fault(FaultKind),
 }
 
 impl LineStop {
@@ -59,13 +59,13 @@ impl From<Memory> for LineStop {
     }
 }
 
-impl From<Kind> for LineStop {
+impl From<FaultKind> for LineStop {
     ghost use Rattle.std.specs.Prelude.{◌≡◌};
     ghost use Rattle.lc_job.specs.declared.stop.LineStop.TheVariants.{Fault};
 
     ghost from_gives = { λ kind e. e ≡ Fault kind };
 
-    fn from(kind: Kind) -> LineStop {
+    fn from(kind: FaultKind) -> LineStop {
         LineStop::Fault(kind)
     }
 }

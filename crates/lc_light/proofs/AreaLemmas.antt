@@ -20,8 +20,8 @@ place_within v h =
 
 -- the three corners besides the first
 pub record Corners (area : Area) : Type 0 where
-  pub along : Within 50_000_000 (moved area.corner area.along)
-  pub across : Within 50_000_000 (moved area.corner area.across)
+  pub along_end : Within 50_000_000 (moved area.corner area.along)
+  pub across_end : Within 50_000_000 (moved area.corner area.across)
   pub opposite : Within 50_000_000 (moved (moved area.corner area.along) area.across)
 
 pub corners_within : (area : Area) → has_places area ≡ true → Corners area
@@ -30,7 +30,7 @@ corners_within area h =
     let across = is_place (moved area.corner area.across) in
     let b = and_parts (along && across) (is_place (moved (moved area.corner area.along) area.across)) h in
     let a = and_parts along across b.0 in
-    record { along = place_within _ a.0; across = place_within _ a.1; opposite = place_within _ b.1 }
+    record { along_end = place_within _ a.0; across_end = place_within _ a.1; opposite = place_within _ b.1 }
 
 -- what leads from a coordinate to a coordinate is at most as long as their range
 step_short : (c a : ℤ) → unsigned_abs c ≤ 50_000_000 → unsigned_abs (c +ℤ a) ≤ 50_000_000 → unsigned_abs a ≤ 100_000_000
@@ -83,9 +83,9 @@ coordinate_within word c a b lt hc ha hb hab =
 
 pub place_by_within : (word : ℕ) (area : Area) → word < 2 ^ 32 → IsArea area → Within 50_000_000 (place_by word area)
 place_by_within word area lt h = record {
-  x = coordinate_within word area.corner.x area.along.x area.across.x lt h.corner.x h.along.x h.across.x h.opposite.x;
-  y = coordinate_within word area.corner.y area.along.y area.across.y lt h.corner.y h.along.y h.across.y h.opposite.y;
-  z = coordinate_within word area.corner.z area.along.z area.across.z lt h.corner.z h.along.z h.across.z h.opposite.z;
+  x = coordinate_within word area.corner.x area.along.x area.across.x lt h.corner.x h.along_end.x h.across_end.x h.opposite.x;
+  y = coordinate_within word area.corner.y area.along.y area.across.y lt h.corner.y h.along_end.y h.across_end.y h.opposite.y;
+  z = coordinate_within word area.corner.z area.along.z area.across.z lt h.corner.z h.along_end.z h.across_end.z h.opposite.z;
 }
 
 -- ---- what the code of a place reads

@@ -73,8 +73,8 @@ area_range values h =
     let corners = corners_within (area values) (unless_passed (has_places (area values)) _ shape.0) in
     record {
       corner = vector_range 0 values corner.0;
-      along = corners.along;
-      across = corners.across;
+      along_end = corners.along_end;
+      across_end = corners.across_end;
       opposite = corners.opposite;
       power = power_range 9 values power.0;
       some = samples.0;

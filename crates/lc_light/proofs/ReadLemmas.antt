@@ -13,7 +13,7 @@ use Rattle.lc_scan.specs.Lines.{Line, lines}
 use Rattle.lc_scan.specs.Fields.{fields}
 use Rattle.lc_scan.specs.Spoken.{spoken_in}
 use Rattle.lc_scan.proofs.ReaderLemmas as reader
-use Rattle.lc_light.specs.Kinds.{kind_number}
+use Rattle.lc_light.specs.FaultKinds.{kind_number}
 use Rattle.lc_light.specs.LightLine.{kind_of, source_of}
 use Rattle.lc_light.specs.Sources.{count, points, samples, suns, lights_of}
 use Rattle.lc_light.specs.LightFile.{sources, fault_of, fault_in, lights}
@@ -22,7 +22,7 @@ use Rattle.lc_light.specs.declared.lights.Omni.{Omni}
 use Rattle.lc_light.specs.declared.lights.Oriented.{Oriented}
 use Rattle.lc_light.specs.declared.lights.Sun.{Sun}
 use Rattle.lc_light.specs.declared.lights.Lights.{Lights}
-use Rattle.lc_light.specs.declared.kind.Kind.{Kind}
+use Rattle.lc_light.specs.declared.fault_kind.FaultKind.{FaultKind}
 use Rattle.lc_light.specs.declared.source.Source.{Source}
 use Rattle.lc_light.proofs.SampleLemmas.{samples_after, samples_later, no_samples}
 
@@ -55,7 +55,7 @@ start text seed rest omni oriented sun words e f g h w = record {
 }
 
 -- the line's own fault, after the lights so far
-own_fault : (l : Line) (seen : List Line) (so_far : ℕ) (o : Option Kind) → so_far ≡ sum_by count (sources seen) → kind_of so_far (fields l.bytes) ≡ o → fault_of seen l ≡ option_map kind_number o
+own_fault : (l : Line) (seen : List Line) (so_far : ℕ) (o : Option FaultKind) → so_far ≡ sum_by count (sources seen) → kind_of so_far (fields l.bytes) ≡ o → fault_of seen l ≡ option_map kind_number o
 own_fault l seen so_far o e k = ap (option_map kind_number) (ap (λ (n : ℕ). kind_of n (fields l.bytes)) (sym e) ∙ k)
 
 pub one_source_more : (seen : List Line) (l : Line) (found : Source) → source_of (fields l.bytes) ≡ Some found → sources (seen ++ l ∷ []) ≡ sources seen ++ found ∷ []
@@ -102,7 +102,7 @@ takes text seed l rest later held more words left so_far now found e j a n p =
       few = omega (arith, n, j.room);
     }
 
-pub stops : (text : List ℕ) (seed : ℕ) (l : Line) (rest later : List Line) (held : Lights) (words : Lcg) (so_far shown : ℕ) (kind : Kind) → spoken_in rest ≡ l ∷ spoken_in later → kind_of so_far (fields l.bytes) ≡ Some kind → shown ≡ kind_number kind
+pub stops : (text : List ℕ) (seed : ℕ) (l : Line) (rest later : List Line) (held : Lights) (words : Lcg) (so_far shown : ℕ) (kind : FaultKind) → spoken_in rest ≡ l ∷ spoken_in later → kind_of so_far (fields l.bytes) ≡ Some kind → shown ≡ kind_number kind
     → Progress text seed rest held words so_far → fault_in text ≡ Some (record { line = l.number; kind = shown })
 unfolding fault_in
 stops text seed l rest later held words so_far shown kind e k s p =

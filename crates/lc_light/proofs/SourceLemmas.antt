@@ -12,8 +12,8 @@ use Rattle.lc_light.specs.Areas.{has_places, spans}
 use Rattle.lc_light.specs.declared.area.Area.{Area}
 use Rattle.lc_light.specs.declared.keyword.Keyword.{Keyword}
 use Rattle.lc_light.specs.declared.keyword.Keyword.TheVariants as keyword
-use Rattle.lc_light.specs.declared.kind.Kind.{Kind}
-use Rattle.lc_light.specs.declared.kind.Kind.TheVariants as kind
+use Rattle.lc_light.specs.declared.fault_kind.FaultKind.{FaultKind}
+use Rattle.lc_light.specs.declared.fault_kind.FaultKind.TheVariants as kind
 use Rattle.lc_light.specs.declared.source.Source.{Source}
 use Rattle.lc_light.specs.Sources.{count}
 use Rattle.lc_scan.specs.LineTests.{first_kind, unless}
@@ -29,18 +29,18 @@ pub record HasVector (values rest : List (List ℕ)) : Type 0 where
   pub rest_is : rest ≡ drop 3 values
 
 -- the tests from the intensities on
-from_power : (values rest : List (List ℕ)) (later : List (Option Kind)) → HasVector values rest → first_kind (vector_tests 0 values ++ (power_tests 3 values ++ later)) ≡ first_kind (power_tests 0 rest ++ later)
+from_power : (values rest : List (List ℕ)) (later : List (Option FaultKind)) → HasVector values rest → first_kind (vector_tests 0 values ++ (power_tests 3 values ++ later)) ≡ first_kind (power_tests 0 rest ++ later)
 from_power values rest later h =
     passed (vector_tests 0 values) (power_tests 3 values ++ later) h.vector
-    ∙ ap (λ (ts : List (Option Kind)). first_kind (ts ++ later)) (power_tests_after 3 values rest h.rest_is)
+    ∙ ap (λ (ts : List (Option FaultKind)). first_kind (ts ++ later)) (power_tests_after 3 values rest h.rest_is)
 
-pub wrong_vector : (key : Keyword) (values : List (List ℕ)) (k : Kind) → first_kind (vector_tests 0 values) ≡ Some k → first_kind (value_tests key values) ≡ Some k
+pub wrong_vector : (key : Keyword) (values : List (List ℕ)) (k : FaultKind) → first_kind (vector_tests 0 values) ≡ Some k → first_kind (value_tests key values) ≡ Some k
 unfolding value_tests area_tests
 wrong_vector keyword.Point values k e = found (vector_tests 0 values) _ k e
 wrong_vector keyword.Sun values k e = found (vector_tests 0 values) _ k e
 wrong_vector keyword.Area values k e = found (area_tests values) _ k (found (vector_tests 0 values) _ k e)
 
-pub point_power : (values rest : List (List ℕ)) (k : Kind) → HasVector values rest → first_kind (power_tests 0 rest) ≡ Some k → first_kind (value_tests keyword.Point values) ≡ Some k
+pub point_power : (values rest : List (List ℕ)) (k : FaultKind) → HasVector values rest → first_kind (power_tests 0 rest) ≡ Some k → first_kind (value_tests keyword.Point values) ≡ Some k
 unfolding value_tests
 point_power values rest k h p = passed (vector_tests 0 values) (power_tests 3 values) h.vector ∙ ap first_kind (power_tests_after 3 values rest h.rest_is) ∙ p
 
@@ -52,7 +52,7 @@ pub point_is : (values rest : List (List ℕ)) (place : Vec3) (power : Power) �
 unfolding point
 point_is values rest place power e v p = ap (λ (w : Vec3). record { place = w; power = power_at 3 values }) v ∙ ap (λ (q : Power). record { place = place; power = q }) (power_after 3 values rest e ∙ p)
 
-pub sun_power : (values rest : List (List ℕ)) (k : Kind) → HasVector values rest → first_kind (power_tests 0 rest) ≡ Some k → first_kind (value_tests keyword.Sun values) ≡ Some k
+pub sun_power : (values rest : List (List ℕ)) (k : FaultKind) → HasVector values rest → first_kind (power_tests 0 rest) ≡ Some k → first_kind (value_tests keyword.Sun values) ≡ Some k
 unfolding value_tests
 sun_power values rest k h p =
     from_power values rest (direction_test (vector_at 0 values) ∷ []) h ∙ found (power_tests 0 rest) (direction_test (vector_at 0 values) ∷ []) k p
@@ -90,18 +90,18 @@ second_place values first second e f = f ∙ ap (drop 3) e ∙ drop-drop 3 3 val
 third_place : (values first second rest : List (List ℕ)) → first ≡ drop 3 values → second ≡ drop 3 first → rest ≡ drop 3 second → rest ≡ drop 9 values
 third_place values first second rest e f g = g ∙ ap (drop 3) (second_place values first second e f) ∙ drop-drop 3 6 values
 
-abbrev count_test : List (List ℕ) → List (Option Kind)
+abbrev count_test : List (List ℕ) → List (Option FaultKind)
 count_test values = samples_test (whole_number 12 values) ∷ []
 
-pub area_corner : (values : List (List ℕ)) (k : Kind) → first_kind (vector_tests 0 values) ≡ Some k → first_kind (area_tests values) ≡ Some k
+pub area_corner : (values : List (List ℕ)) (k : FaultKind) → first_kind (vector_tests 0 values) ≡ Some k → first_kind (area_tests values) ≡ Some k
 unfolding area_tests
 area_corner values k e = found (vector_tests 0 values) _ k e
 
-pub area_along : (values first : List (List ℕ)) (k : Kind) → first_kind (vector_tests 0 values) ≡ None → first ≡ drop 3 values → first_kind (side_tests 0 first) ≡ Some k → first_kind (area_tests values) ≡ Some k
+pub area_along : (values first : List (List ℕ)) (k : FaultKind) → first_kind (vector_tests 0 values) ≡ None → first ≡ drop 3 values → first_kind (side_tests 0 first) ≡ Some k → first_kind (area_tests values) ≡ Some k
 unfolding area_tests
 area_along values first k p e s =
     let late = side_tests 6 values ++ (power_tests 9 values ++ count_test values) in
-    passed (vector_tests 0 values) (side_tests 3 values ++ late) p ∙ ap (λ (ts : List (Option Kind)). first_kind (ts ++ late)) (side_tests_after 3 values first e)
+    passed (vector_tests 0 values) (side_tests 3 values ++ late) p ∙ ap (λ (ts : List (Option FaultKind)). first_kind (ts ++ late)) (side_tests_after 3 values first e)
     ∙ found (side_tests 0 first) late k s
 
 to_across : (values first second : List (List ℕ)) → first_kind (vector_tests 0 values) ≡ None → first ≡ drop 3 values → first_kind (side_tests 0 first) ≡ None → second ≡ drop 3 first
@@ -110,11 +110,11 @@ unfolding area_tests
 to_across values first second p e s f =
     let late = power_tests 9 values ++ count_test values in
     passed (vector_tests 0 values) (side_tests 3 values ++ (side_tests 6 values ++ late)) p
-    ∙ ap (λ (ts : List (Option Kind)). first_kind (ts ++ (side_tests 6 values ++ late))) (side_tests_after 3 values first e)
+    ∙ ap (λ (ts : List (Option FaultKind)). first_kind (ts ++ (side_tests 6 values ++ late))) (side_tests_after 3 values first e)
     ∙ passed (side_tests 0 first) (side_tests 6 values ++ late) s
-    ∙ ap (λ (ts : List (Option Kind)). first_kind (ts ++ late)) (side_tests_after 6 values second (second_place values first second e f))
+    ∙ ap (λ (ts : List (Option FaultKind)). first_kind (ts ++ late)) (side_tests_after 6 values second (second_place values first second e f))
 
-pub area_across : (values first second : List (List ℕ)) (k : Kind) → first_kind (vector_tests 0 values) ≡ None → first ≡ drop 3 values → first_kind (side_tests 0 first) ≡ None → second ≡ drop 3 first → first_kind (side_tests 0 second) ≡ Some k
+pub area_across : (values first second : List (List ℕ)) (k : FaultKind) → first_kind (vector_tests 0 values) ≡ None → first ≡ drop 3 values → first_kind (side_tests 0 first) ≡ None → second ≡ drop 3 first → first_kind (side_tests 0 second) ≡ Some k
     → first_kind (area_tests values) ≡ Some k
 area_across values first second k p e s f h = to_across values first second p e s f ∙ found (side_tests 0 second) (power_tests 9 values ++ count_test values) k h
 
@@ -122,9 +122,9 @@ area_across values first second k p e s f h = to_across values first second p e 
 to_power : (values first second rest : List (List ℕ)) → HasSides values first second rest → first_kind (area_tests values) ≡ first_kind (power_tests 0 rest ++ count_test values)
 to_power values first second rest h =
     to_across values first second h.corner h.first_is h.along h.second_is ∙ passed (side_tests 0 second) (power_tests 9 values ++ count_test values) h.across
-    ∙ ap (λ (ts : List (Option Kind)). first_kind (ts ++ count_test values)) (power_tests_after 9 values rest (third_place values first second rest h.first_is h.second_is h.rest_is))
+    ∙ ap (λ (ts : List (Option FaultKind)). first_kind (ts ++ count_test values)) (power_tests_after 9 values rest (third_place values first second rest h.first_is h.second_is h.rest_is))
 
-pub area_power : (values first second rest : List (List ℕ)) (k : Kind) → HasSides values first second rest → first_kind (power_tests 0 rest) ≡ Some k → first_kind (area_tests values) ≡ Some k
+pub area_power : (values first second rest : List (List ℕ)) (k : FaultKind) → HasSides values first second rest → first_kind (power_tests 0 rest) ≡ Some k → first_kind (area_tests values) ≡ Some k
 area_power values first second rest k h p = to_power values first second rest h ∙ found (power_tests 0 rest) (count_test values) k p
 
 -- the intensities are read too, and the number of samples stands in the rest
@@ -164,7 +164,7 @@ area_is values first second third rest made h v =
     (power_after 9 values third (third_place values first second third s.first_is s.second_is s.rest_is) ∙ v.power)
     (ap value (whole_after 12 values rest (fourth_place values first second third rest h)) ∙ v.count)
 
-pub area_value : (values : List (List ℕ)) (k : Kind) → first_kind (area_tests values) ≡ Some k → first_kind (value_tests keyword.Area values) ≡ Some k
+pub area_value : (values : List (List ℕ)) (k : FaultKind) → first_kind (area_tests values) ≡ Some k → first_kind (value_tests keyword.Area values) ≡ Some k
 unfolding value_tests
 area_value values k e = found (area_tests values) (shape_tests (area values)) k e
 
@@ -180,7 +180,7 @@ shape_left values made h = passed (area_tests values) (shape_tests (area values)
 two_tests : (b c x y : Bool) → b ≡ x → c ≡ y → first_kind (unless b kind.Range ∷ unless c kind.NoArea ∷ []) ≡ cond x (cond y None (Some kind.NoArea)) (Some kind.Range)
 two_tests b c x y e f =
     first_kind-unless b x kind.Range (unless c kind.NoArea ∷ []) e
-    ∙ ap (λ (o : Option Kind). cond x o (Some kind.Range)) (first_kind-unless c y kind.NoArea [] f)
+    ∙ ap (λ (o : Option FaultKind). cond x o (Some kind.Range)) (first_kind-unless c y kind.NoArea [] f)
 
 pub area_corners : (values : List (List ℕ)) (made : Area) → HasArea values made → has_places made ≡ false → first_kind (value_tests keyword.Area values) ≡ Some kind.Range
 area_corners values made h e = shape_left values made h ∙ two_tests (has_places made) (spans made) false (spans made) e refl
@@ -232,7 +232,7 @@ by_values n fs values word key h =
     by_keyword n fs values word key h.keyword
     ∙ first_kind-unless (eqb (length values) (value_count key)) true kind.FieldCount _ (eq-eqb _ _ (enough fs values word key h))
 
-pub wrong_value : (n : ℕ) (fs values : List (List ℕ)) (word : List ℕ) (key : Keyword) (k : Kind) → HasValues fs values word key → first_kind (value_tests key values) ≡ Some k → kind_of n fs ≡ Some k
+pub wrong_value : (n : ℕ) (fs values : List (List ℕ)) (word : List ℕ) (key : Keyword) (k : FaultKind) → HasValues fs values word key → first_kind (value_tests key values) ≡ Some k → kind_of n fs ≡ Some k
 wrong_value n fs values word key k h e = by_values n fs values word key h ∙ found (value_tests key values) _ k e
 
 by_room : (n : ℕ) (fs values : List (List ℕ)) (word : List ℕ) (key : Keyword) (made : Source) (x : Bool) → HasValues fs values word key → first_kind (value_tests key values) ≡ None → source_by key values ≡ made → leb (n + count made) 65536 ≡ x

@@ -18,7 +18,7 @@ use Rattle.lc_scan.specs.Spoken.{spoken}
 use Rattle.lc_scan.specs.Faults.{first_fault}
 use Rattle.lc_scan.proofs.LineTestLemmas.{no_kind}
 use Rattle.lc_scan.proofs.ReaderLemmas.{fault_then-none}
-use Rattle.lc_light.specs.Kinds.{kind_number}
+use Rattle.lc_light.specs.FaultKinds.{kind_number}
 use Rattle.lc_light.specs.Areas.{IsArea, normal, sample, samples_from, share}
 use Rattle.lc_light.specs.Lights.{IsOmni, IsOriented, IsSun, AreLights}
 use Rattle.lc_light.specs.LightLine.{kind_of, source_of}

@@ -33,8 +33,8 @@ spans area = nat_lt 0 (square (cross area.along area.across))
 -- the four corners are places, and the intensity and the number of samples are in their ranges
 pub record IsArea (area : Area) : Type 0 where
   pub corner : Within 50_000_000 area.corner
-  pub along : Within 50_000_000 (moved area.corner area.along)
-  pub across : Within 50_000_000 (moved area.corner area.across)
+  pub along_end : Within 50_000_000 (moved area.corner area.along)
+  pub across_end : Within 50_000_000 (moved area.corner area.across)
   pub opposite : Within 50_000_000 (moved (moved area.corner area.along) area.across)
   pub power : IsPowerWithin 100_000_000 area.power
   pub some : 1 ≤ area.count

@@ -1,5 +1,5 @@
 pub mod Lights
-pub mod Kinds
+pub mod FaultKinds
 pub mod Areas
 pub mod Sources
 pub mod LightLine

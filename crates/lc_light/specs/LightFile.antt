@@ -6,7 +6,7 @@ use Rattle.lc_scan.specs.Lines.{Line}
 use Rattle.lc_scan.specs.Fields.{fields}
 use Rattle.lc_scan.specs.Spoken.{spoken}
 use Rattle.lc_scan.specs.Faults as faults
-use Rattle.lc_light.specs.Kinds.{kind_number}
+use Rattle.lc_light.specs.FaultKinds.{kind_number}
 use Rattle.lc_light.specs.LightLine.{kind_of, source_of}
 use Rattle.lc_light.specs.Sources.{areas, count, lights_of}
 use Rattle.lc_light.specs.declared.area.Area.{Area}

@@ -95,10 +95,10 @@ impl Area {
         requires across { Within (10 ^ 14) self.now.across }
         ensures { result ≡ has_places self.now }
     {
-        let along = moved(self.corner, self.along);
-        is_place(along)
+        let along_end = moved(self.corner, self.along);
+        is_place(along_end)
             && is_place(moved(self.corner, self.across))
-            && is_place(moved(along, self.across))
+            && is_place(moved(along_end, self.across))
     }
 
     /// Whether the two sides span an area.

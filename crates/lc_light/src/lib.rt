@@ -2,8 +2,8 @@
 #![tactic(auto)]
 
 mod area;
+mod fault_kind;
 mod keyword;
-mod kind;
 mod lights;
 mod line;
 mod reader;

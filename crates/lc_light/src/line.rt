@@ -7,8 +7,8 @@ ghost use Rattle.lc_scan.specs.LineTests.{first_kind, IsAnswer};
 ghost use Rattle.lc_light.specs.LightLine.{point, sun, area, source_by, source_of, area_tests, value_tests, value_count, kind_of};
 
 use crate::area::Area;
+use crate::fault_kind::FaultKind;
 use crate::keyword::Keyword;
-use crate::kind::Kind;
 use crate::lights::{Omni, Sun};
 use crate::source::Source;
 use crate::values::{power, samples, side, vector};
@@ -17,7 +17,7 @@ use lc_scan::{Fields, count};
 
 const MOST_LIGHTS: usize = 65_536;
 
-fn point(values: &mut Fields) -> Result<Omni, Kind>
+fn point(values: &mut Fields) -> Result<Omni, FaultKind>
     requires { 6 ≤ length values.old }
     ensures { IsAnswer (first_kind (value_tests Keyword.Point values.old)) (point values.old) result }
 {
@@ -27,14 +27,14 @@ fn point(values: &mut Fields) -> Result<Omni, Kind>
 }
 
 /// The sun of the values, its direction scaled.
-fn sun(values: &mut Fields) -> Result<Sun, Kind>
+fn sun(values: &mut Fields) -> Result<Sun, FaultKind>
     requires { 6 ≤ length values.old }
     ensures { IsAnswer (first_kind (value_tests Keyword.Sun values.old)) (sun values.old) result }
 {
     let direction = vector(values)?;
     let power = power(values)?;
     if square(direction) == 0 {
-        return Err(Kind::NoDirection);
+        return Err(FaultKind::NoDirection);
     }
     Ok(Sun {
         toward: scaled(direction, 16_384),
@@ -43,7 +43,7 @@ fn sun(values: &mut Fields) -> Result<Sun, Kind>
 }
 
 /// The area light of the values, before it is tested as a whole.
-fn read_area(values: &mut Fields) -> Result<Area, Kind>
+fn read_area(values: &mut Fields) -> Result<Area, FaultKind>
     requires { 13 ≤ length values.old }
     ensures value { IsAnswer (first_kind (area_tests values.old)) (area values.old) result }
     ensures range { IfOk result (λ made. Within 50_000_000 made.corner × Within (10 ^ 14) made.along × Within (10 ^ 14) made.across) }
@@ -63,22 +63,22 @@ fn read_area(values: &mut Fields) -> Result<Area, Kind>
 }
 
 /// The area light of the values.
-fn area(values: &mut Fields) -> Result<Area, Kind>
+fn area(values: &mut Fields) -> Result<Area, FaultKind>
     requires { 13 ≤ length values.old }
     ensures { IsAnswer (first_kind (value_tests Keyword.Area values.old)) (area values.old) result }
 {
     let area = read_area(values)?;
     if !area.has_places() {
-        return Err(Kind::Range);
+        return Err(FaultKind::Range);
     }
     if !area.spans() {
-        return Err(Kind::NoArea);
+        return Err(FaultKind::NoArea);
     }
     Ok(area)
 }
 
 /// The source of the values after a keyword.
-fn source_by(keyword: Keyword, values: &mut Fields) -> Result<Source, Kind>
+fn source_by(keyword: Keyword, values: &mut Fields) -> Result<Source, FaultKind>
     requires { value_count keyword ≤ length values.old }
     ensures { IsAnswer (first_kind (value_tests keyword values.old)) (source_by keyword values.old) result }
 {
@@ -90,7 +90,7 @@ fn source_by(keyword: Keyword, values: &mut Fields) -> Result<Source, Kind>
 }
 
 /// The source of a line with fields, after so many lights, or the first test that the line fails.
-pub fn source_in(line: &[u8], so_far: usize) -> Result<Source, Kind>
+pub fn source_in(line: &[u8], so_far: usize) -> Result<Source, FaultKind>
     requires some { 0 < length (fields line.now) }
     requires few { so_far ≤ 65536 }
     ensures value { MatchResult result
@@ -101,17 +101,17 @@ pub fn source_in(line: &[u8], so_far: usize) -> Result<Source, Kind>
 {
     let mut values = Fields::new(line);
     let Some(word) = values.next_field() else {
-        return Err(Kind::Keyword);
+        return Err(FaultKind::Keyword);
     };
     let Some(keyword) = Keyword::of(word) else {
-        return Err(Kind::Keyword);
+        return Err(FaultKind::Keyword);
     };
     if count(line) != 1 + keyword.value_count() {
-        return Err(Kind::FieldCount);
+        return Err(FaultKind::FieldCount);
     }
     let source = source_by(keyword, &mut values)?;
     if source.count() > MOST_LIGHTS - so_far {
-        return Err(Kind::TooMany);
+        return Err(FaultKind::TooMany);
     }
     Ok(source)
 }

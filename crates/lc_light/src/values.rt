@@ -6,7 +6,7 @@ ghost use Rattle.lc_scan.specs.LineTests.{first_kind, IsAnswer};
 ghost use Rattle.lc_light.specs.LightLine.{number, whole_number, value, vector_at, power_at, number_test, coordinate_test, intensity_test, samples_test, side_tests, vector_tests, power_tests};
 
 use crate::area::MOST_COORDINATE;
-use crate::kind::Kind;
+use crate::fault_kind::FaultKind;
 use lc_num::{Power, Vec3};
 use lc_scan::{Fields, decimal, whole};
 
@@ -16,36 +16,36 @@ const MOST_INTENSITY: i64 = 100_000_000;
 const MOST_SAMPLES: u64 = 4096;
 
 /// The next value as a component of a side.
-fn number(values: &mut Fields) -> Result<i64, Kind>
+fn number(values: &mut Fields) -> Result<i64, FaultKind>
     requires { 0 < length values.old }
     ensures rest { values.new ≡ drop 1 values.old }
     ensures value { IsAnswer (number_test (number 0 values.old)) (units (number 0 values.old)) result }
     ensures range { IfOk result (λ z. unsigned_abs z ≤ 10 ^ 14) }
 {
     let Some(field) = values.next_field() else {
-        return Err(Kind::Number);
+        return Err(FaultKind::Number);
     };
     match decimal(field) {
-        Err(_) => Err(Kind::Number),
+        Err(_) => Err(FaultKind::Number),
         Ok(z) => Ok(z),
     }
 }
 
 /// The next value as a coordinate.
-fn coordinate(values: &mut Fields) -> Result<i64, Kind>
+fn coordinate(values: &mut Fields) -> Result<i64, FaultKind>
     requires { 0 < length values.old }
     ensures rest { values.new ≡ drop 1 values.old }
     ensures value { IsAnswer (coordinate_test (number 0 values.old)) (units (number 0 values.old)) result }
     ensures range { IfOk result (λ z. unsigned_abs z ≤ 50_000_000) }
 {
     let Some(field) = values.next_field() else {
-        return Err(Kind::Number);
+        return Err(FaultKind::Number);
     };
     match decimal(field) {
-        Err(_) => Err(Kind::Number),
+        Err(_) => Err(FaultKind::Number),
         Ok(z) => {
             if z.unsigned_abs() > MOST_COORDINATE {
-                Err(Kind::Range)
+                Err(FaultKind::Range)
             } else {
                 Ok(z)
             }
@@ -54,21 +54,21 @@ fn coordinate(values: &mut Fields) -> Result<i64, Kind>
 }
 
 /// The next value as an intensity.
-fn intensity(values: &mut Fields) -> Result<u64, Kind>
+fn intensity(values: &mut Fields) -> Result<u64, FaultKind>
     requires { 0 < length values.old }
     ensures rest { values.new ≡ drop 1 values.old }
     ensures value { IsAnswer (intensity_test (number 0 values.old)) (unsigned_abs (units (number 0 values.old))) result }
 {
     let Some(field) = values.next_field() else {
-        return Err(Kind::Number);
+        return Err(FaultKind::Number);
     };
     match decimal(field) {
-        Err(_) => Err(Kind::Number),
+        Err(_) => Err(FaultKind::Number),
         Ok(z) => {
             if z < 0 {
-                Err(Kind::Negative)
+                Err(FaultKind::Negative)
             } else if z > MOST_INTENSITY {
-                Err(Kind::Range)
+                Err(FaultKind::Range)
             } else {
                 Ok(z as u64)
             }
@@ -77,18 +77,18 @@ fn intensity(values: &mut Fields) -> Result<u64, Kind>
 }
 
 /// The next value as the number of samples of an area light.
-pub fn samples(values: &mut Fields) -> Result<u32, Kind>
+pub fn samples(values: &mut Fields) -> Result<u32, FaultKind>
     requires { 0 < length values.old }
     ensures value { IsAnswer (samples_test (whole_number 0 values.old)) (value (whole_number 0 values.old)) result }
 {
     let Some(field) = values.next_field() else {
-        return Err(Kind::Number);
+        return Err(FaultKind::Number);
     };
     match whole(field) {
-        Err(_) => Err(Kind::Number),
+        Err(_) => Err(FaultKind::Number),
         Ok(n) => {
             if n == 0 || n > MOST_SAMPLES {
-                Err(Kind::SampleCount)
+                Err(FaultKind::SampleCount)
             } else {
                 Ok(n as u32)
             }
@@ -97,7 +97,7 @@ pub fn samples(values: &mut Fields) -> Result<u32, Kind>
 }
 
 /// The next three values as a side.
-pub fn side(values: &mut Fields) -> Result<Vec3, Kind>
+pub fn side(values: &mut Fields) -> Result<Vec3, FaultKind>
     requires { 3 ≤ length values.old }
     ensures rest { OnOk result (values.new ≡ drop 3 values.old) }
     ensures value { IsAnswer (first_kind (side_tests 0 values.old)) (vector_at 0 values.old) result }
@@ -110,7 +110,7 @@ pub fn side(values: &mut Fields) -> Result<Vec3, Kind>
 }
 
 /// The next three values as a place or a direction.
-pub fn vector(values: &mut Fields) -> Result<Vec3, Kind>
+pub fn vector(values: &mut Fields) -> Result<Vec3, FaultKind>
     requires { 3 ≤ length values.old }
     ensures rest { OnOk result (values.new ≡ drop 3 values.old) }
     ensures value { IsAnswer (first_kind (vector_tests 0 values.old)) (vector_at 0 values.old) result }
@@ -123,7 +123,7 @@ pub fn vector(values: &mut Fields) -> Result<Vec3, Kind>
 }
 
 /// The next three values as intensities.
-pub fn power(values: &mut Fields) -> Result<Power, Kind>
+pub fn power(values: &mut Fields) -> Result<Power, FaultKind>
     requires { 3 ≤ length values.old }
     ensures rest { OnOk result (values.new ≡ drop 3 values.old) }
     ensures value { IsAnswer (first_kind (power_tests 0 values.old)) (power_at 0 values.old) result }

@@ -8,7 +8,7 @@ use Rattle.lc_scan.specs.Fields.{fields, rest}
 use Rattle.lc_scan.specs.Spoken.{spoken, spoken_in}
 use Rattle.lc_scan.proofs.LineTestLemmas.{no_kind}
 use Rattle.lc_scan.proofs.ReaderLemmas as reader
-use Rattle.lc_mtl.specs.Kinds.{kind_number}
+use Rattle.lc_mtl.specs.FaultKinds.{kind_number}
 use Rattle.lc_scan.specs.LineTests.{first_kind, unless}
 use Rattle.lc_mtl.specs.MtlLine.{entry_by, entry_of, keyword_of, kind_by, kind_of}
 use Rattle.lc_mtl.specs.MtlFile.{is_begin, begins, fault_of, fault_in, materials_in}
@@ -16,8 +16,8 @@ use Rattle.lc_mtl.specs.Drafts.{taken}
 use Rattle.lc_mtl.specs.declared.entry.Entry.{Entry}
 use Rattle.lc_mtl.specs.declared.keyword.Keyword.{Keyword}
 use Rattle.lc_mtl.specs.declared.keyword.Keyword.TheVariants as keyword
-use Rattle.lc_mtl.specs.declared.kind.Kind.{Kind}
-use Rattle.lc_mtl.specs.declared.kind.Kind.TheVariants as kind
+use Rattle.lc_mtl.specs.declared.fault_kind.FaultKind.{FaultKind}
+use Rattle.lc_mtl.specs.declared.fault_kind.FaultKind.TheVariants as kind
 use Rattle.lc_mtl.specs.declared.material.Material.{Material}
 use Rattle.lc_mtl.proofs.FileLemmas.{counted, one_line_more}
 
@@ -76,7 +76,7 @@ start held text left drafts few e d = record {
 }
 
 -- the judge of a line counts the materials that lines before it begin
-judged : (held : ℕ) (seen : List Line) (l : Line) (drafts : List Material) (begun : ℕ) (o : Option Kind) → drafts ≡ materials_in seen → begun ≡ length drafts → kind_of held begun (rest l.bytes) (fields l.bytes) ≡ o → fault_of held seen l ≡ option_map kind_number o
+judged : (held : ℕ) (seen : List Line) (l : Line) (drafts : List Material) (begun : ℕ) (o : Option FaultKind) → drafts ≡ materials_in seen → begun ≡ length drafts → kind_of held begun (rest l.bytes) (fields l.bytes) ≡ o → fault_of held seen l ≡ option_map kind_number o
 judged held seen l drafts begun o d n k =
     ap (option_map kind_number) (ap (λ (m : ℕ). kind_of held m (rest l.bytes) (fields l.bytes)) (sym (n ∙ ap (λ (ms : List Material). length ms) d ∙ counted seen)) ∙ k)
 
@@ -93,7 +93,7 @@ takes held text left later l drafts more begun o e n k says m p =
       few = omega (arith, one_more_fits held p.seen l good before, ap (λ (ms : List Material). length ms) now, counted (p.seen ++ l ∷ []));
     }
 
-pub stops : (held : ℕ) (text : List ℕ) (left later : List Line) (l : Line) (drafts : List Material) (begun shown : ℕ) (kind : Kind) → spoken_in left ≡ l ∷ spoken_in later → begun ≡ length drafts → kind_of held begun (rest l.bytes) (fields l.bytes) ≡ Some kind → shown ≡ kind_number kind
+pub stops : (held : ℕ) (text : List ℕ) (left later : List Line) (l : Line) (drafts : List Material) (begun shown : ℕ) (kind : FaultKind) → spoken_in left ≡ l ∷ spoken_in later → begun ≡ length drafts → kind_of held begun (rest l.bytes) (fields l.bytes) ≡ Some kind → shown ≡ kind_number kind
     → Reading held text left drafts → fault_in held text ≡ Some (record { line = l.number; kind = shown })
 unfolding fault_in
 stops held text left later l drafts begun shown kind e n k s p =

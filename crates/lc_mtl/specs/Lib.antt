@@ -1,4 +1,4 @@
-pub mod Kinds
+pub mod FaultKinds
 pub mod Materials
 pub mod Settings
 pub mod MtlLine

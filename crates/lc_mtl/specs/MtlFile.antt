@@ -5,7 +5,7 @@ use Rattle.lc_scan.specs.Lines.{Line}
 use Rattle.lc_scan.specs.Spoken.{spoken}
 use Rattle.lc_scan.specs.Fields.{fields, rest}
 use Rattle.lc_scan.specs.Faults as faults
-use Rattle.lc_mtl.specs.Kinds.{kind_number}
+use Rattle.lc_mtl.specs.FaultKinds.{kind_number}
 use Rattle.lc_mtl.specs.Settings.{material}
 use Rattle.lc_mtl.specs.MtlLine.{entry_of, kind_of}
 use Rattle.lc_mtl.specs.declared.entry.Entry.{Entry}

@@ -3,6 +3,7 @@ use Rattle.std.specs.Prelude.{ℕ, ◌+◌, ◌/◌, ◌||◌, nat_lt, min, List
 use Rattle.std.specs.Str.{bytes_eq}
 use Rattle.lc_num.specs.declared.channels.Colour.{Colour}
 use Rattle.lc_scan.specs.Decimal.{decimal_of}
+use Rattle.lc_scan.specs.Keywords.{look_up}
 use Rattle.lc_scan.specs.LineTests.{first_kind, unless}
 use Rattle.lc_scan.specs.declared.fault.NumFault.{NumFault}
 use Rattle.lc_mtl.specs.Settings.{grey}
@@ -11,19 +12,20 @@ use Rattle.lc_mtl.specs.declared.entry.Entry.TheVariants as entry
 use Rattle.lc_mtl.specs.declared.entry.Setting.TheVariants as setting
 use Rattle.lc_mtl.specs.declared.keyword.Keyword.{Keyword}
 use Rattle.lc_mtl.specs.declared.keyword.Keyword.TheVariants as keyword
-use Rattle.lc_mtl.specs.declared.kind.Kind.{Kind}
-use Rattle.lc_mtl.specs.declared.kind.Kind.TheVariants as kind
+use Rattle.lc_mtl.specs.declared.fault_kind.FaultKind.{FaultKind}
+use Rattle.lc_mtl.specs.declared.fault_kind.FaultKind.TheVariants as kind
 
 -- ---- what a line says: its keyword is the first field, its values are the others
 
--- lines of other keywords are passed over
+-- the keywords, each with its word
+abbrev pub keywords : List (List ℕ × Keyword)
+keywords =
+    (codes "newmtl", keyword.Material) ∷ (codes "Kd", keyword.Diffuse) ∷ (codes "Ks", keyword.Specular)
+    ∷ (codes "Ns", keyword.Exponent) ∷ []
+
+-- the keyword that a field is, if it is one; lines of others are passed over
 unfoldable pub keyword_of : List ℕ → Option Keyword
-keyword_of word =
-    if bytes_eq word (codes "newmtl")
-    then Some keyword.Material
-    else (if bytes_eq word (codes "Kd")
-    then Some keyword.Diffuse
-    else (if bytes_eq word (codes "Ks") then Some keyword.Specular else (if bytes_eq word (codes "Ns") then Some keyword.Exponent else None)))
+keyword_of word = look_up keywords word
 
 abbrev pub units_of : Result ℤ NumFault → ℕ
 units_of (Ok z) = unsigned_abs z
@@ -66,55 +68,55 @@ entry_of (word ∷ values) = option_map (λ key. entry_by key values) (keyword_o
 
 -- ---- the tests; each gives its kind where it fails
 
-abbrev pub units_test : Result ℤ NumFault → Option Kind
+abbrev pub units_test : Result ℤ NumFault → Option FaultKind
 units_test (Err e) = Some kind.Number
 units_test (Ok (negsuc n)) = Some kind.Negative
 units_test (Ok (pos n)) = None
 
 -- a number that is not below 0
-abbrev pub number_test : List ℕ → Option Kind
+abbrev pub number_test : List ℕ → Option FaultKind
 number_test value = units_test (decimal_of value)
 
 -- no colour by a spectral file, nor in XYZ
-abbrev pub form_test : List ℕ → Option Kind
+abbrev pub form_test : List ℕ → Option FaultKind
 form_test value = if bytes_eq value (codes "spectral") || bytes_eq value (codes "xyz") then Some kind.Colour else None
 
 -- one number or at least three, each from the left
-abbrev pub colour_tests : List (List ℕ) → List (Option Kind)
+abbrev pub colour_tests : List (List ℕ) → List (Option FaultKind)
 colour_tests [] = Some kind.Colour ∷ []
 colour_tests (all ∷ []) = form_test all ∷ number_test all ∷ []
 colour_tests (r ∷ g ∷ []) = Some kind.Colour ∷ []
 colour_tests (r ∷ g ∷ b ∷ more) = form_test r ∷ number_test r ∷ number_test g ∷ number_test b ∷ []
 
 -- a number at least
-abbrev pub exponent_tests : List (List ℕ) → List (Option Kind)
+abbrev pub exponent_tests : List (List ℕ) → List (Option FaultKind)
 exponent_tests [] = Some kind.Number ∷ []
 exponent_tests (value ∷ more) = number_test value ∷ []
 
 -- a material of this text has begun
-abbrev pub begun_test : ℕ → Option Kind
+abbrev pub begun_test : ℕ → Option FaultKind
 begun_test begun = unless (nat_lt 0 begun) kind.NoMaterial
 
-abbrev pub name_test : List ℕ → Option Kind
+abbrev pub name_test : List ℕ → Option FaultKind
 name_test name = unless (nat_lt 0 (length name)) kind.Name
 
 -- with these materials there is room for one more
-abbrev pub room_test : ℕ → Option Kind
+abbrev pub room_test : ℕ → Option FaultKind
 room_test so_far = unless (nat_lt so_far 4096) kind.TooMany
 
 -- the tests of a line by its keyword, its name and its values, in their order: `held` materials stood before the text,
 -- and `begun` begin in it before the line
-abbrev pub tests : ℕ → ℕ → Keyword → List ℕ → List (List ℕ) → List (Option Kind)
+abbrev pub tests : ℕ → ℕ → Keyword → List ℕ → List (List ℕ) → List (Option FaultKind)
 tests held begun keyword.Material name values = name_test name ∷ room_test (held + begun) ∷ []
 tests held begun keyword.Diffuse name values = begun_test begun ∷ colour_tests values
 tests held begun keyword.Specular name values = begun_test begun ∷ colour_tests values
 tests held begun keyword.Exponent name values = begun_test begun ∷ exponent_tests values
 
-abbrev pub kind_by : ℕ → ℕ → Option Keyword → List ℕ → List (List ℕ) → Option Kind
+abbrev pub kind_by : ℕ → ℕ → Option Keyword → List ℕ → List (List ℕ) → Option FaultKind
 kind_by held begun None name values = None
 kind_by held begun (Some key) name values = first_kind (tests held begun key name values)
 
 -- the kind of the first test that a line of this name and these fields fails; a line of another keyword passes
-unfoldable pub kind_of : ℕ → ℕ → List ℕ → List (List ℕ) → Option Kind
+unfoldable pub kind_of : ℕ → ℕ → List ℕ → List (List ℕ) → Option FaultKind
 kind_of held begun name [] = None
 kind_of held begun name (word ∷ values) = kind_by held begun (keyword_of word) name values

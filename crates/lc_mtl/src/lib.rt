@@ -3,8 +3,8 @@
 
 mod drafts;
 mod entry;
+mod fault_kind;
 mod keyword;
-mod kind;
 mod line;
 mod material;
 mod numbers;

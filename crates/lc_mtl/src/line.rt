@@ -2,12 +2,12 @@
 ghost use Rattle.std.specs.Prelude.{◌≡◌, ◌+◌, ◌≤◌, [], ◌∷◌, Some, None};
 ghost use Rattle.lc_scan.specs.Fields.{fields, rest};
 ghost use Rattle.lc_mtl.specs.Settings.{grey};
-ghost use Rattle.lc_scan.specs.LineTests.{first_kind, IsAnswer, IsPassed};
+ghost use Rattle.lc_scan.specs.LineTests.{first_kind, IsAnswer, IsTested};
 ghost use Rattle.lc_mtl.specs.MtlLine.{begun_test, name_test, room_test, form_test, number_test, colour_tests, exponent_tests, tests, share, colour, exponent, entry_by, entry_of, kind_of};
 
 use crate::entry::{Entry, Setting};
+use crate::fault_kind::FaultKind;
 use crate::keyword::Keyword;
-use crate::kind::Kind;
 use crate::material::grey;
 use crate::numbers::{nearest_exponent, share};
 use lc_num::Colour;
@@ -16,37 +16,37 @@ use lc_scan::{Fields, rest};
 const MOST_MATERIALS: usize = 4_096;
 
 /// Whether a material can begin that has this name, after so many.
-fn test_begin(name: &[u8], so_far: usize) -> Result<(), Kind>
-    ensures { IsPassed (first_kind (name_test name.now ∷ room_test so_far ∷ [])) result }
+fn test_begin(name: &[u8], so_far: usize) -> Result<(), FaultKind>
+    ensures { IsTested (first_kind (name_test name.now ∷ room_test so_far ∷ [])) result }
 {
     if name.is_empty() {
-        return Err(Kind::Name);
+        return Err(FaultKind::Name);
     }
     if so_far >= MOST_MATERIALS {
-        return Err(Kind::TooMany);
+        return Err(FaultKind::TooMany);
     }
     Ok(())
 }
 
-fn test_begun(begun: usize) -> Result<(), Kind>
-    ensures { IsPassed (begun_test begun) result }
+fn test_begun(begun: usize) -> Result<(), FaultKind>
+    ensures { IsTested (begun_test begun) result }
 {
     if begun == 0 {
-        return Err(Kind::NoMaterial);
+        return Err(FaultKind::NoMaterial);
     }
     Ok(())
 }
 
-fn test_form(value: &[u8]) -> Result<(), Kind>
-    ensures { IsPassed (form_test value.now) result }
+fn test_form(value: &[u8]) -> Result<(), FaultKind>
+    ensures { IsTested (form_test value.now) result }
 {
     if value == b"spectral".as_slice() || value == b"xyz".as_slice() {
-        return Err(Kind::Colour);
+        return Err(FaultKind::Colour);
     }
     Ok(())
 }
 
-fn one_share(all: &[u8]) -> Result<Colour, Kind>
+fn one_share(all: &[u8]) -> Result<Colour, FaultKind>
     ensures { IsAnswer (first_kind (form_test all.now ∷ number_test all.now ∷ [])) (grey (share all.now)) result }
 {
     test_form(all)?;
@@ -54,7 +54,7 @@ fn one_share(all: &[u8]) -> Result<Colour, Kind>
     Ok(grey(share))
 }
 
-fn three_shares(red: &[u8], green: &[u8], blue: &[u8]) -> Result<Colour, Kind>
+fn three_shares(red: &[u8], green: &[u8], blue: &[u8]) -> Result<Colour, FaultKind>
     ensures { IsAnswer (first_kind (form_test red.now ∷ number_test red.now ∷ number_test green.now ∷ number_test blue.now ∷ [])) (record { r = share red.now; g = share green.now; b = share blue.now }) result }
 {
     test_form(red)?;
@@ -65,27 +65,27 @@ fn three_shares(red: &[u8], green: &[u8], blue: &[u8]) -> Result<Colour, Kind>
 }
 
 /// The colour of the values of a line: one share for all channels, or three.
-fn colour(values: &mut Fields) -> Result<Colour, Kind>
+fn colour(values: &mut Fields) -> Result<Colour, FaultKind>
     ensures { IsAnswer (first_kind (colour_tests values.old)) (colour values.old) result }
 {
     let Some(first) = values.next_field() else {
-        return Err(Kind::Colour);
+        return Err(FaultKind::Colour);
     };
     let Some(second) = values.next_field() else {
         return one_share(first);
     };
     let Some(third) = values.next_field() else {
-        return Err(Kind::Colour);
+        return Err(FaultKind::Colour);
     };
     three_shares(first, second, third)
 }
 
 /// The exponent of the values of a line.
-fn exponent(values: &mut Fields) -> Result<u32, Kind>
+fn exponent(values: &mut Fields) -> Result<u32, FaultKind>
     ensures { IsAnswer (first_kind (exponent_tests values.old)) (exponent values.old) result }
 {
     let Some(value) = values.next_field() else {
-        return Err(Kind::Number);
+        return Err(FaultKind::Number);
     };
     nearest_exponent(value)
 }
@@ -97,7 +97,7 @@ fn entry_by(
     values: &mut Fields,
     held: usize,
     begun: usize,
-) -> Result<Entry, Kind>
+) -> Result<Entry, FaultKind>
     requires { held + begun ≤ 4096 }
     ensures { IsAnswer (first_kind (tests held begun keyword name.now values.old)) (entry_by keyword values.old) result }
 {
@@ -127,7 +127,7 @@ fn entry_by(
 /// What a line says, or the first test that it fails: `held` materials stood before the text, and `begun` begin in it
 /// before the line. It says nothing where its keyword is passed over.
 #[tactic(auto, unfolding(crate::specs::MtlLine::kind_of, crate::specs::MtlLine::entry_of))]
-pub fn entry_in(line: &[u8], held: usize, begun: usize) -> Result<Option<Entry>, Kind>
+pub fn entry_in(line: &[u8], held: usize, begun: usize) -> Result<Option<Entry>, FaultKind>
     requires { held + begun ≤ 4096 }
     ensures { IsAnswer (kind_of held begun (rest line.now) (fields line.now)) (entry_of (fields line.now)) result }
 {

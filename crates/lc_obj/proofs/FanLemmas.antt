@@ -6,8 +6,8 @@ use Rattle.std.proofs.lemmas.List.{append-nil}
 use Rattle.std.proofs.lemmas.List.Elements.{filter-append}
 use Rattle.lc_num.specs.Vectors.{Within}
 use Rattle.lc_geom.specs.Triangles.{IsTri}
-use Rattle.lc_obj.specs.declared.kind.Kind.{Kind}
-use Rattle.lc_obj.specs.declared.kind.Kind.TheVariants as kind
+use Rattle.lc_obj.specs.declared.fault_kind.FaultKind.{FaultKind}
+use Rattle.lc_obj.specs.declared.fault_kind.FaultKind.TheVariants as kind
 use Rattle.lc_obj.specs.declared.corner.Corner.{Corner}
 use Rattle.lc_obj.specs.declared.mesh.Face.{Face}
 use Rattle.lc_obj.specs.declared.stop.LineStop.{LineStop}
@@ -28,7 +28,7 @@ unfolding corners_tests
 corner_passed given vs later v e h =
     ap (λ (ws : List (List ℕ)). first_kind (flat_map (corner_tests given) ws)) e ∙ passed (corner_tests given v) (flat_map (corner_tests given) later) h
 
-pub corner_wrong : (given : Tables) (vs later : List (List ℕ)) (v : List ℕ) (k : Kind) → vs ≡ v ∷ later → first_kind (corner_tests given v) ≡ Some k → first_kind (corners_tests given vs) ≡ Some k
+pub corner_wrong : (given : Tables) (vs later : List (List ℕ)) (v : List ℕ) (k : FaultKind) → vs ≡ v ∷ later → first_kind (corner_tests given v) ≡ Some k → first_kind (corners_tests given vs) ≡ Some k
 unfolding corners_tests
 corner_wrong given vs later v k e h =
     ap (λ (ws : List (List ℕ)). first_kind (flat_map (corner_tests given) ws)) e ∙ found (corner_tests given v) (flat_map (corner_tests given) later) k h
@@ -106,7 +106,7 @@ face_in_range name first previous next a b c = record { a = a; b = b; c = c }
 
 -- ---- a line of a face
 
-pub wrong_corner : (given : Tables) (so_far : ℕ) (vs : List (List ℕ)) (k : Kind) → 3 ≤ length vs → first_kind (corners_tests given vs) ≡ Some k → first_kind (face_tests given so_far vs) ≡ Some k
+pub wrong_corner : (given : Tables) (so_far : ℕ) (vs : List (List ℕ)) (k : FaultKind) → 3 ≤ length vs → first_kind (corners_tests given vs) ≡ Some k → first_kind (face_tests given so_far vs) ≡ Some k
 unfolding face_tests
 wrong_corner given so_far vs k h e = cons_passed (count_test 3 kind.Face vs) _ (enough 3 kind.Face vs h) ∙ found (corners_tests given vs) _ k e
 

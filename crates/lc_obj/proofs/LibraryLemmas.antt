@@ -3,8 +3,8 @@ use Rattle.std.proofs.Common.{◌≡◌, ℕ, ◌<◌, List, [], ◌∷◌, leng
 use Rattle.std.specs.Prelude.{map}
 use Rattle.std.specs.Str.{bytes_eq}
 use Rattle.indexmap.specs.IndexSet.{insert_key, insert_all}
-use Rattle.lc_obj.specs.declared.kind.Kind.{Kind}
-use Rattle.lc_obj.specs.declared.kind.Kind.TheVariants as kind
+use Rattle.lc_obj.specs.declared.fault_kind.FaultKind.{FaultKind}
+use Rattle.lc_obj.specs.declared.fault_kind.FaultKind.TheVariants as kind
 use Rattle.lc_scan.specs.LineTests.{first_kind}
 use Rattle.lc_obj.specs.ObjLine.{count_test, library_tests, name_test}
 use Rattle.lc_scan.proofs.LineTestLemmas.{cons_passed, cons_found}
@@ -29,7 +29,7 @@ names_one whole before left later named more libs name e a h = record {
   libs_are = a.2;
 }
 
-pub wrong_name : (whole before left later named libs : List (List ℕ)) (name : List ℕ) (k : Kind) → left ≡ name ∷ later → name_test name ≡ Some k → Named whole before left named libs → first_kind (map name_test whole) ≡ Some k
+pub wrong_name : (whole before left later named libs : List (List ℕ)) (name : List ℕ) (k : FaultKind) → left ≡ name ∷ later → name_test name ≡ Some k → Named whole before left named libs → first_kind (map name_test whole) ≡ Some k
 wrong_name whole before left later named libs name k e t h =
     h.tests_are ∙ ap (λ (ns : List (List ℕ)). first_kind (map name_test ns)) e ∙ cons_found (name_test name) (map name_test later) k t
 

@@ -6,7 +6,7 @@ use Rattle.lc_scan.specs.LineTests.{first_kind}
 use Rattle.lc_obj.specs.ObjLine.{field, key, kind_of, line_tests, values}
 use Rattle.lc_obj.specs.Readings.{Adds, IsLineStop}
 use Rattle.lc_obj.specs.declared.keyword.Keyword.{Keyword}
-use Rattle.lc_obj.specs.declared.kind.Kind.{Kind}
+use Rattle.lc_obj.specs.declared.fault_kind.FaultKind.{FaultKind}
 use Rattle.lc_obj.specs.declared.reading.Reading.{Reading}
 use Rattle.lc_obj.specs.declared.stop.LineStop.{LineStop}
 use Rattle.lc_obj.specs.declared.tables.Tables.{Tables}
@@ -30,5 +30,5 @@ pub takes_line : (t : Tables) (n : ℕ) (line : List ℕ) (vs : List (List ℕ))
 takes_line t n line vs k old new e f a = (sym (kind_is t n line vs k e f) ∙ a.0, adds line vs k old new e f a.1)
 
 -- a line stops for the same kind
-pub same_stop : (s : LineStop) (found other : Option Kind) → found ≡ other → IsLineStop s found → IsLineStop s other
-same_stop s found other e h = subst (λ (o : Option Kind). IsLineStop s o) e h
+pub same_stop : (s : LineStop) (found other : Option FaultKind) → found ≡ other → IsLineStop s found → IsLineStop s other
+same_stop s found other e h = subst (λ (o : Option FaultKind). IsLineStop s o) e h

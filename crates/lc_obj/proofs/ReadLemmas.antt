@@ -15,13 +15,13 @@ use Rattle.lc_scan.specs.Lines.{Line, is_feed, joined, joins, last_line, line, l
 use Rattle.lc_scan.specs.Spoken.{is_spoken, spoken, spoken_in}
 use Rattle.lc_scan.proofs.ReaderLemmas as reader
 use Rattle.lc_scan.proofs.ReaderLemmas.{Progress}
-use Rattle.lc_obj.specs.Kinds.{kind_number}
+use Rattle.lc_obj.specs.FaultKinds.{kind_number}
 use Rattle.lc_obj.specs.ObjLine.{key, values, places_by, uvs_by, normals_by, faces_by, triangles_by, uses_by, libraries_by, kind_of}
 use Rattle.lc_obj.specs.ObjFile.{tables, triangles, first_uses, uses, names, libs, number_after, in_force, faces_from, mesh, fault_of, fault_in}
 use Rattle.lc_obj.specs.Readings.{Adds, IsReading}
 use Rattle.lc_obj.specs.declared.keyword.Keyword.{Keyword}
 use Rattle.lc_obj.specs.declared.keyword.Keyword.TheVariants as keyword
-use Rattle.lc_obj.specs.declared.kind.Kind.{Kind}
+use Rattle.lc_obj.specs.declared.fault_kind.FaultKind.{FaultKind}
 use Rattle.lc_obj.specs.declared.mesh.Face.{Face}
 use Rattle.lc_obj.specs.declared.mesh.Mesh.{Mesh}
 use Rattle.lc_obj.specs.declared.mesh.Uv.{Uv}
@@ -211,10 +211,10 @@ start text left r e f = record {
   reading = subst (λ (s : Reading). IsReading s) (sym f) nothing_read;
 }
 
-own_fault : (seen : List Line) (l : Line) (r : Reading) (o : Option Kind) → Holds seen r → kind_of r.tables r.triangles l.bytes ≡ o → fault_of seen l ≡ option_map kind_number o
+own_fault : (seen : List Line) (l : Line) (r : Reading) (o : Option FaultKind) → Holds seen r → kind_of r.tables r.triangles l.bytes ≡ o → fault_of seen l ≡ option_map kind_number o
 own_fault seen l r o h e =
     ap (λ (t : Tables). option_map kind_number (kind_of t (triangles seen) l.bytes)) (sym h.tables_are) ∙ ap (λ (n : ℕ). option_map kind_number (kind_of r.tables n l.bytes)) (sym h.triangles_are)
-    ∙ ap (λ (k : Option Kind). option_map kind_number k) e
+    ∙ ap (λ (k : Option FaultKind). option_map kind_number k) e
 
 pub takes : (text : List ℕ) (left later : List Line) (l : Line) (old new : Reading) → spoken_in left ≡ l ∷ spoken_in later → (kind_of old.tables old.triangles l.bytes ≡ None) × Adds (key l.bytes) l.bytes (values l.bytes) old new → IsReading new → Read text left old → Read text later new
 takes text left later l old new e a valid h = record {
@@ -224,7 +224,7 @@ takes text left later l old new e a valid h = record {
   reading = valid;
 }
 
-pub stops : (text : List ℕ) (left later : List Line) (l : Line) (r : Reading) (k : Kind) (number : ℕ) → spoken_in left ≡ l ∷ spoken_in later → kind_of r.tables r.triangles l.bytes ≡ Some k → number ≡ kind_number k → Read text left r → fault_in text ≡ Some (record { line = l.number; kind = number })
+pub stops : (text : List ℕ) (left later : List Line) (l : Line) (r : Reading) (k : FaultKind) (number : ℕ) → spoken_in left ≡ l ∷ spoken_in later → kind_of r.tables r.triangles l.bytes ≡ Some k → number ≡ kind_number k → Read text left r → fault_in text ≡ Some (record { line = l.number; kind = number })
 unfolding fault_in
 stops text left later l r k number e bad n h =
     reader.stops fault_of text h.seen (spoken_in left) (spoken_in later) l (kind_number k) e (own_fault h.seen l r (Some k) h.holds bad) h.progress ∙ ap (λ (m : ℕ). Some (record { line = l.number; kind = m })) (sym n)

@@ -22,7 +22,7 @@ use Rattle.lc_scan.specs.Spoken.{spoken}
 use Rattle.lc_scan.specs.Faults.{first_fault}
 use Rattle.lc_scan.proofs.LineTestLemmas.{both_passed, cons_both_passed, no_kind, unless_passed}
 use Rattle.lc_scan.proofs.ReaderLemmas.{fault_then-none}
-use Rattle.lc_obj.specs.Kinds.{kind_number}
+use Rattle.lc_obj.specs.FaultKinds.{kind_number}
 use Rattle.lc_obj.specs.Corners.{AreTables, corner_of, corner_tests}
 use Rattle.lc_obj.specs.Meshes.{AreNormals, IsFace, IsMesh}
 use Rattle.lc_scan.specs.LineTests.{first_kind}
@@ -30,8 +30,8 @@ use Rattle.lc_obj.specs.ObjLine.{corners_tests, coordinate_in, coordinate_test, 
 use Rattle.lc_obj.specs.ObjFile.{fault_in, fault_of, faces_from, in_force, mesh, names, number_after, tables, triangles}
 use Rattle.lc_obj.specs.declared.keyword.Keyword.{Keyword}
 use Rattle.lc_obj.specs.declared.keyword.Keyword.TheVariants as keyword
-use Rattle.lc_obj.specs.declared.kind.Kind.{Kind}
-use Rattle.lc_obj.specs.declared.kind.Kind.TheVariants as kind
+use Rattle.lc_obj.specs.declared.fault_kind.FaultKind.{FaultKind}
+use Rattle.lc_obj.specs.declared.fault_kind.FaultKind.TheVariants as kind
 use Rattle.lc_obj.specs.declared.corner.Corner.{Corner}
 use Rattle.lc_obj.specs.declared.mesh.Face.{Face}
 use Rattle.lc_obj.specs.declared.tables.Tables.{Tables}
@@ -72,7 +72,7 @@ fine_nothing = record {
 
 -- ---- one line of numbers
 
-room_left : (so_far more : ℕ) (k : Kind) → room_test so_far more k ≡ None → so_far + more ≤ 1_000_000
+room_left : (so_far more : ℕ) (k : FaultKind) → room_test so_far more k ≡ None → so_far + more ≤ 1_000_000
 room_left so_far more k e = leb-true (so_far + more) 1000000 (unless_passed (leb (so_far + more) 1000000) k e)
 
 coordinate_within : (r : Result ℤ NumFault) → coordinate_in r ≡ None → unsigned_abs (units r) ≤ 50_000_000

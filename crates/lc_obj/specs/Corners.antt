@@ -4,8 +4,8 @@ use Rattle.std.specs.List.{slice_split}
 use Rattle.lc_num.specs.Vectors.{Within, zero_vector}
 use Rattle.lc_scan.specs.Whole.{whole_of}
 use Rattle.lc_scan.specs.declared.fault.NumFault.{NumFault}
-use Rattle.lc_obj.specs.declared.kind.Kind.{Kind}
-use Rattle.lc_obj.specs.declared.kind.Kind.TheVariants as kind
+use Rattle.lc_obj.specs.declared.fault_kind.FaultKind.{FaultKind}
+use Rattle.lc_obj.specs.declared.fault_kind.FaultKind.TheVariants as kind
 use Rattle.lc_obj.specs.declared.mesh.Uv.{Uv}
 use Rattle.lc_obj.specs.declared.index.Index.{Index}
 use Rattle.lc_obj.specs.declared.index.Indices.{Indices}
@@ -30,7 +30,7 @@ unfoldable pub index_of : List ℕ → Option Index
 index_of part = index_by (is_back part) (whole_of (digits part))
 
 -- an index k, or -k, names one of the items given so far where k is from 1 to their number
-abbrev pub index_test : ℕ → Index → Option Kind
+abbrev pub index_test : ℕ → Index → Option FaultKind
 index_test given i = if i.size == 0 then Some kind.IndexZero else if nat_lt given i.size then Some kind.Index else None
 
 -- its place among them, from the front or from the back
@@ -69,17 +69,17 @@ unfoldable pub indices_of : List ℕ → Option Indices
 indices_of corner = indices_in (slice_split is_slash corner)
 
 -- an index that may be left out
-abbrev pub optional_test : ℕ → Option Index → Option Kind
+abbrev pub optional_test : ℕ → Option Index → Option FaultKind
 optional_test given None = None
 optional_test given (Some i) = index_test given i
 
 -- the form first, and then each index that is there
-abbrev pub tests_by : Tables → Option Indices → List (Option Kind)
+abbrev pub tests_by : Tables → Option Indices → List (Option FaultKind)
 tests_by given None = Some kind.Number ∷ []
 tests_by given (Some i) =
     index_test (length given.places) i.place ∷ optional_test (length given.uvs) i.uv ∷ optional_test (length given.normals) i.normal ∷ []
 
-unfoldable pub corner_tests : Tables → List ℕ → List (Option Kind)
+unfoldable pub corner_tests : Tables → List ℕ → List (Option FaultKind)
 corner_tests given corner = tests_by given (indices_of corner)
 
 abbrev pub no_uv : Uv

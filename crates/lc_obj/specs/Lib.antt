@@ -1,4 +1,4 @@
-pub mod Kinds
+pub mod FaultKinds
 pub mod Keywords
 pub mod Corners
 pub mod Meshes

@@ -6,7 +6,7 @@ use Rattle.lc_num.specs.Faults.{Fault}
 use Rattle.lc_scan.specs.Lines.{Line}
 use Rattle.lc_scan.specs.Spoken.{spoken}
 use Rattle.lc_scan.specs.Faults as faults
-use Rattle.lc_obj.specs.Kinds.{kind_number}
+use Rattle.lc_obj.specs.FaultKinds.{kind_number}
 use Rattle.lc_obj.specs.ObjLine.{key, values, places_by, uvs_by, normals_by, faces_by, triangles_by, uses_by, libraries_by, kind_of}
 use Rattle.lc_obj.specs.declared.mesh.Face.{Face}
 use Rattle.lc_obj.specs.declared.mesh.Mesh.{Mesh}

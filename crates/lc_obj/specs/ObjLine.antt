@@ -13,8 +13,8 @@ use Rattle.lc_obj.specs.Keywords.{keyword_of}
 use Rattle.lc_obj.specs.Corners.{corner_of, corner_tests}
 use Rattle.lc_obj.specs.declared.keyword.Keyword.{Keyword}
 use Rattle.lc_obj.specs.declared.keyword.Keyword.TheVariants as keyword
-use Rattle.lc_obj.specs.declared.kind.Kind.{Kind}
-use Rattle.lc_obj.specs.declared.kind.Kind.TheVariants as kind
+use Rattle.lc_obj.specs.declared.fault_kind.FaultKind.{FaultKind}
+use Rattle.lc_obj.specs.declared.fault_kind.FaultKind.TheVariants as kind
 use Rattle.lc_obj.specs.declared.corner.Corner.{Corner}
 use Rattle.lc_obj.specs.declared.mesh.Face.{Face}
 use Rattle.lc_obj.specs.declared.mesh.Triple.{Triple}
@@ -123,65 +123,65 @@ libraries_by _ vs = []
 -- ---- the tests; each gives its kind where it fails
 
 -- so many values stand after the keyword, or more
-abbrev pub count_test : ℕ → Kind → List (List ℕ) → Option Kind
+abbrev pub count_test : ℕ → FaultKind → List (List ℕ) → Option FaultKind
 count_test least kind vs = unless (nat_le least (length vs)) kind
 
 -- a coordinate is a number from -5000 to 5000
-abbrev pub coordinate_in : Result ℤ NumFault → Option Kind
+abbrev pub coordinate_in : Result ℤ NumFault → Option FaultKind
 coordinate_in (Err e) = Some kind.Number
 coordinate_in (Ok z) = unless (nat_le (unsigned_abs z) 50000000) kind.Number
 
-abbrev pub coordinate_test : List ℕ → Option Kind
+abbrev pub coordinate_test : List ℕ → Option FaultKind
 coordinate_test value = coordinate_in (decimal_of value)
 
-abbrev pub number_in : Result ℤ NumFault → Option Kind
+abbrev pub number_in : Result ℤ NumFault → Option FaultKind
 number_in (Err e) = Some kind.Number
 number_in (Ok z) = None
 
 -- a number of a texture place has no range of its own
-abbrev pub number_test : List ℕ → Option Kind
+abbrev pub number_test : List ℕ → Option FaultKind
 number_test value = number_in (decimal_of value)
 
 -- with the items so far there is room for some more
-abbrev pub room_test : ℕ → ℕ → Kind → Option Kind
+abbrev pub room_test : ℕ → ℕ → FaultKind → Option FaultKind
 room_test so_far more kind = unless (nat_le (so_far + more) 1000000) kind
 
-abbrev pub coordinate_tests : List (List ℕ) → List (Option Kind)
+abbrev pub coordinate_tests : List (List ℕ) → List (Option FaultKind)
 coordinate_tests vs = coordinate_test (field 0 vs) ∷ coordinate_test (field 1 vs) ∷ coordinate_test (field 2 vs) ∷ []
 
-unfoldable pub vector_tests : ℕ → List (List ℕ) → List (Option Kind)
+unfoldable pub vector_tests : ℕ → List (List ℕ) → List (Option FaultKind)
 vector_tests so_far vs = count_test 3 kind.Words vs ∷ (coordinate_tests vs ++ room_test so_far 1 kind.Vertices ∷ [])
 
 -- the first of these values is a number, if there is one
-abbrev pub optional_number_test : List (List ℕ) → Option Kind
+abbrev pub optional_number_test : List (List ℕ) → Option FaultKind
 optional_number_test [] = None
 optional_number_test (value ∷ later) = number_test value
 
-abbrev pub number_tests : List (List ℕ) → List (Option Kind)
+abbrev pub number_tests : List (List ℕ) → List (Option FaultKind)
 number_tests vs = number_test (field 0 vs) ∷ optional_number_test (drop 1 vs) ∷ []
 
-unfoldable pub uv_tests : ℕ → List (List ℕ) → List (Option Kind)
+unfoldable pub uv_tests : ℕ → List (List ℕ) → List (Option FaultKind)
 uv_tests so_far vs = count_test 1 kind.Words vs ∷ (number_tests vs ++ room_test so_far 1 kind.Vertices ∷ [])
 
 -- the tests of the corners from the left
-unfoldable pub corners_tests : Tables → List (List ℕ) → List (Option Kind)
+unfoldable pub corners_tests : Tables → List (List ℕ) → List (Option FaultKind)
 corners_tests given vs = flat_map (corner_tests given) vs
 
-unfoldable pub face_tests : Tables → ℕ → List (List ℕ) → List (Option Kind)
+unfoldable pub face_tests : Tables → ℕ → List (List ℕ) → List (Option FaultKind)
 face_tests given so_far vs =
     count_test 3 kind.Face vs ∷ (corners_tests given vs ++ room_test so_far (length vs - 2) kind.Triangles ∷ [])
 
-abbrev pub use_tests : List ℕ → List (Option Kind)
+abbrev pub use_tests : List ℕ → List (Option FaultKind)
 use_tests line = unless (nat_lt 0 (length (rest line))) kind.Words ∷ []
 
-abbrev pub name_test : List ℕ → Option Kind
+abbrev pub name_test : List ℕ → Option FaultKind
 name_test name = unless (is_utf8 name) kind.Utf8
 
-unfoldable pub library_tests : List (List ℕ) → List (Option Kind)
+unfoldable pub library_tests : List (List ℕ) → List (Option FaultKind)
 library_tests vs = count_test 1 kind.Words vs ∷ map name_test vs
 
 -- the tests of a line in their order, after these items and so many triangles; a line of another keyword is passed over
-abbrev pub line_tests : Keyword → Tables → ℕ → List ℕ → List (List ℕ) → List (Option Kind)
+abbrev pub line_tests : Keyword → Tables → ℕ → List ℕ → List (List ℕ) → List (Option FaultKind)
 line_tests keyword.Place given triangles line vs = vector_tests (length given.places) vs
 line_tests keyword.Uv given triangles line vs = uv_tests (length given.uvs) vs
 line_tests keyword.Normal given triangles line vs = vector_tests (length given.normals) vs
@@ -192,5 +192,5 @@ line_tests keyword.FreeForm given triangles line vs = Some kind.FreeForm ∷ []
 line_tests keyword.Other given triangles line vs = []
 
 -- the kind of the first test that a line fails
-unfoldable pub kind_of : Tables → ℕ → List ℕ → Option Kind
+unfoldable pub kind_of : Tables → ℕ → List ℕ → Option FaultKind
 kind_of given triangles line = first_kind (line_tests (key line) given triangles line (values line))

@@ -7,7 +7,7 @@ use Rattle.lc_obj.specs.Corners.{AreTables}
 use Rattle.lc_obj.specs.ObjLine.{places_by, uvs_by, normals_by, faces_by, triangles_by, uses_by, libraries_by}
 use Rattle.lc_obj.specs.ObjFile.{number_after}
 use Rattle.lc_obj.specs.declared.keyword.Keyword.{Keyword}
-use Rattle.lc_obj.specs.declared.kind.Kind.{Kind}
+use Rattle.lc_obj.specs.declared.fault_kind.FaultKind.{FaultKind}
 use Rattle.lc_obj.specs.declared.reading.Reading.{Reading}
 use Rattle.lc_obj.specs.declared.stop.LineStop.{LineStop}
 use Rattle.lc_obj.specs.declared.stop.LineStop.TheVariants as stop
@@ -31,6 +31,6 @@ pub record Adds (key : Keyword) (line : List ℕ) (vs : List (List ℕ)) (old ne
   pub named : new.named ≡ insert_all bytes_eq old.named (libraries_by key vs)
 
 -- a line stops for want of memory, or for the first test that it fails
-abbrev pub IsLineStop : LineStop → Option Kind → Type 0
+abbrev pub IsLineStop : LineStop → Option FaultKind → Type 0
 IsLineStop stop.Memory found = Unit {0}
 IsLineStop (stop.Fault kind) found = found ≡ Some kind

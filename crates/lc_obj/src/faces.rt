@@ -2,12 +2,12 @@
 ghost use Rattle.std.specs.Prelude.{◌≡◌, ◌-◌, ◌+◌, ◌<◌, ◌≤◌, [], ◌∷◌, ◌++◌, length, drop, filter, None, IfErr, IfOk, OnOk};
 ghost use Rattle.lc_geom.specs.Triangles.{IsTri};
 ghost use Rattle.lc_obj.specs.Corners.{AreTables, corner_of, corner_tests};
-ghost use Rattle.lc_scan.specs.LineTests.{first_kind, IsAnswer, IsPassed};
+ghost use Rattle.lc_scan.specs.LineTests.{first_kind, IsAnswer, IsTested};
 ghost use Rattle.lc_obj.specs.ObjLine.{corners_tests, face, face_tests, faces_in, field, is_kept, three_normals, three_uvs};
 ghost use Rattle.lc_obj.specs.Readings.{IsLineStop};
 
 use crate::corner::{Corner, corner_in};
-use crate::kind::Kind;
+use crate::fault_kind::FaultKind;
 use crate::mesh::{Face, Triple, Uv, UvTriple};
 use crate::stop::LineStop;
 use crate::tables::Tables;
@@ -65,19 +65,19 @@ fn add(faces: &mut List<Face>, face: Face) -> Result<(), Memory>
 }
 
 /// The next corner.
-fn corner(values: &mut Fields, given: &Tables) -> Result<Corner, Kind>
+fn corner(values: &mut Fields, given: &Tables) -> Result<Corner, FaultKind>
     requires { 0 < length values.old }
     ensures rest { values.new ≡ drop 1 values.old }
     ensures value { IsAnswer (first_kind (corner_tests given.now (field 0 values.old))) (corner_of given.now (field 0 values.old)) result }
 {
     let Some(value) = values.next_field() else {
-        return Err(Kind::Number);
+        return Err(FaultKind::Number);
     };
     corner_in(value, given)
 }
 
-fn test_corners(values: &mut Fields, given: &Tables) -> Result<(), Kind>
-    ensures { IsPassed (first_kind (corners_tests given.now values.old)) result }
+fn test_corners(values: &mut Fields, given: &Tables) -> Result<(), FaultKind>
+    ensures { IsTested (first_kind (corners_tests given.now values.old)) result }
 {
     while let Some(value) = values.next_field() {
         corner_in(value, given)?;
@@ -111,13 +111,13 @@ fn add_fan(
 /// Adds the triangles of a face of so many corners after so many triangles, and gives their number, flat ones counted.
 pub fn add_face(
     values: &mut Fields,
-    count: usize,
+    value_count: usize,
     given: &Tables,
     name: u32,
     so_far: usize,
     faces: &mut List<Face>,
 ) -> Result<usize, LineStop>
-    requires count { count ≡ length values.old }
+    requires count { value_count ≡ length values.old }
     requires given { AreTables given.now }
     requires few { so_far ≤ 1_000_000 }
     ensures ok { OnOk result ((first_kind (face_tests given.now so_far values.old) ≡ None)
@@ -125,13 +125,13 @@ pub fn add_face(
     ensures count { IfOk result (λ triangles. (triangles ≡ length values.old - 2) × (so_far + triangles ≤ 1_000_000)) }
     ensures fault { IfErr result (λ stop. IsLineStop stop (first_kind (face_tests given.now so_far values.old))) }
 {
-    if count < 3 {
-        return Err(LineStop::Fault(Kind::Face));
+    if value_count < 3 {
+        return Err(LineStop::Fault(FaultKind::Face));
     }
-    let triangles = count - 2;
+    let triangles = value_count - 2;
     if triangles > MOST_TRIANGLES - so_far {
         test_corners(values, given)?;
-        return Err(LineStop::Fault(Kind::Triangles));
+        return Err(LineStop::Fault(FaultKind::Triangles));
     }
     add_fan(values, given, name, faces)?;
     Ok(triangles)

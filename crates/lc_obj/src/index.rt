@@ -3,7 +3,7 @@ ghost use Rattle.std.specs.Prelude.{◌≡◌, ◌<◌, [], ◌∷◌, Some, Non
 ghost use Rattle.std.specs.List.{slice_split};
 ghost use Rattle.lc_obj.specs.Corners.{digits, index_of, index_test, indices_of, is_back, is_slash, place_of};
 
-use crate::kind::Kind;
+use crate::fault_kind::FaultKind;
 use lc_scan::whole;
 
 /// An index as it is spelled: its number, and whether it counts from the end.
@@ -64,16 +64,16 @@ impl Index {
     }
 
     /// The place of the item that the index names among so many.
-    pub fn among(self, given: usize) -> Result<usize, Kind>
+    pub fn among(self, given: usize) -> Result<usize, FaultKind>
         ensures { MatchResult result
             (λ at. (index_test given self ≡ None) × (place_of given self ≡ at) × (at < given))
             (λ kind. index_test given self ≡ Some kind) }
     {
         if self.size == 0 {
-            return Err(Kind::IndexZero);
+            return Err(FaultKind::IndexZero);
         }
         if self.size > given as u64 {
-            return Err(Kind::Index);
+            return Err(FaultKind::Index);
         }
         let size = self.size as usize;
         if self.back {

@@ -1,8 +1,8 @@
 // The keywords of lines.
 ghost use Rattle.std.specs.Prelude.{◌≡◌};
-ghost use Rattle.std.specs.List.{list_any};
-ghost use Rattle.std.specs.Str.{bytes_eq};
-ghost use Rattle.lc_obj.specs.Keywords.{free_form, keyword_of};
+ghost use Rattle.lc_obj.specs.Keywords.{keyword_of};
+
+use lc_scan::look_up;
 
 /// The first field of a line, which says what the line gives.
 #[derive(Clone, Copy)]
@@ -25,47 +25,36 @@ pub enum Keyword {
     Other,
 }
 
-fn is_free_form(word: &[u8]) -> bool
-    ensures { result ≡ list_any (bytes_eq word.now) free_form }
-{
-    word == b"vp".as_slice()
-        || word == b"cstype".as_slice()
-        || word == b"deg".as_slice()
-        || word == b"bmat".as_slice()
-        || word == b"step".as_slice()
-        || word == b"curv".as_slice()
-        || word == b"curv2".as_slice()
-        || word == b"surf".as_slice()
-        || word == b"parm".as_slice()
-        || word == b"trim".as_slice()
-        || word == b"hole".as_slice()
-        || word == b"scrv".as_slice()
-        || word == b"sp".as_slice()
-        || word == b"end".as_slice()
-        || word == b"con".as_slice()
-}
+/// The keywords of lines that are not passed over, each with its word.
+const KEYWORDS: [(&[u8], Keyword); 21] = [
+    (b"v", Keyword::Place),
+    (b"vt", Keyword::Uv),
+    (b"vn", Keyword::Normal),
+    (b"f", Keyword::Face),
+    (b"usemtl", Keyword::Use),
+    (b"mtllib", Keyword::Library),
+    (b"vp", Keyword::FreeForm),
+    (b"cstype", Keyword::FreeForm),
+    (b"deg", Keyword::FreeForm),
+    (b"bmat", Keyword::FreeForm),
+    (b"step", Keyword::FreeForm),
+    (b"curv", Keyword::FreeForm),
+    (b"curv2", Keyword::FreeForm),
+    (b"surf", Keyword::FreeForm),
+    (b"parm", Keyword::FreeForm),
+    (b"trim", Keyword::FreeForm),
+    (b"hole", Keyword::FreeForm),
+    (b"scrv", Keyword::FreeForm),
+    (b"sp", Keyword::FreeForm),
+    (b"end", Keyword::FreeForm),
+    (b"con", Keyword::FreeForm),
+];
 
 impl Keyword {
     #[tactic(auto, unfolding(crate::specs::Keywords::keyword_of))]
     pub fn of(word: &[u8]) -> Keyword
         ensures { result ≡ keyword_of word.now }
     {
-        if word == b"v".as_slice() {
-            Keyword::Place
-        } else if word == b"vt".as_slice() {
-            Keyword::Uv
-        } else if word == b"vn".as_slice() {
-            Keyword::Normal
-        } else if word == b"f".as_slice() {
-            Keyword::Face
-        } else if word == b"usemtl".as_slice() {
-            Keyword::Use
-        } else if word == b"mtllib".as_slice() {
-            Keyword::Library
-        } else if is_free_form(word) {
-            Keyword::FreeForm
-        } else {
-            Keyword::Other
-        }
+        look_up(&KEYWORDS, word).unwrap_or(Keyword::Other)
     }
 }

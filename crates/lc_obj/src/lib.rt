@@ -3,9 +3,9 @@
 
 mod corner;
 mod faces;
+mod fault_kind;
 mod index;
 mod keyword;
-mod kind;
 mod mesh;
 mod reader;
 mod reading;

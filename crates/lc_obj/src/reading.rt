@@ -9,8 +9,8 @@ ghost use Rattle.lc_obj.specs.Readings.{Adds, IsLineStop, IsReading};
 ghost use Rattle.lc_obj.specs.declared.keyword.Keyword.TheVariants.{Library, Use};
 
 use crate::faces::add_face;
+use crate::fault_kind::FaultKind;
 use crate::keyword::Keyword;
-use crate::kind::Kind;
 use crate::mesh::Mesh;
 use crate::stop::LineStop;
 use crate::tables::Tables;
@@ -53,7 +53,7 @@ fn add_library<'a>(
     ensures fault { IfErr result (λ stop. IsLineStop stop (name_test name.now)) }
 {
     let Some(held) = name_of(alloc, name)? else {
-        return Err(LineStop::Fault(Kind::Utf8));
+        return Err(LineStop::Fault(FaultKind::Utf8));
     };
     let (_, is_new) = named.insert(name)?;
     if is_new {
@@ -112,7 +112,7 @@ impl<'a> Reading<'a> {
     {
         let name = rest(line);
         if name.is_empty() {
-            return Err(LineStop::Fault(Kind::Words));
+            return Err(LineStop::Fault(FaultKind::Words));
         }
         let (place, is_new) = self.used.insert(name)?;
         add_name(alloc, &mut self.mesh.names, name, is_new)?;
@@ -124,30 +124,30 @@ impl<'a> Reading<'a> {
         &mut self,
         alloc: Global,
         values: &mut Fields<'a>,
-        count: usize,
+        value_count: usize,
     ) -> Result<(), LineStop>
         requires reading { IsReading self.old }
-        requires count { count ≡ length values.old }
+        requires count { value_count ≡ length values.old }
         ensures ok { OnOk result ((first_kind (library_tests values.old) ≡ None) × Adds Library [] values.old self.old self.new) }
         ensures valid { OnOk result (IsReading self.new) }
         ensures fault { IfErr result (λ stop. IsLineStop stop (first_kind (library_tests values.old))) }
     {
-        if count == 0 {
-            return Err(LineStop::Fault(Kind::Words));
+        if value_count == 0 {
+            return Err(LineStop::Fault(FaultKind::Words));
         }
         add_libraries(alloc, values, &mut self.named, &mut self.mesh.libs)
     }
 
-    fn add_face(&mut self, values: &mut Fields, count: usize) -> Result<(), LineStop>
+    fn add_face(&mut self, values: &mut Fields, value_count: usize) -> Result<(), LineStop>
         requires reading { IsReading self.old }
-        requires count { count ≡ length values.old }
+        requires count { value_count ≡ length values.old }
         ensures ok { OnOk result ((first_kind (line_tests Keyword.Face self.old.tables self.old.triangles [] values.old) ≡ None) × Adds Keyword.Face [] values.old self.old self.new) }
         ensures valid { OnOk result (IsReading self.new) }
         ensures fault { IfErr result (λ stop. IsLineStop stop (first_kind (line_tests Keyword.Face self.old.tables self.old.triangles [] values.old))) }
     {
         let triangles = add_face(
             values,
-            count,
+            value_count,
             &self.tables,
             self.name,
             self.triangles,
@@ -164,23 +164,23 @@ impl<'a> Reading<'a> {
         key: Keyword,
         line: &'a [u8],
         values: &mut Fields<'a>,
-        count: usize,
+        value_count: usize,
     ) -> Result<(), LineStop>
         requires reading { IsReading self.old }
         requires few { length self.old.used < 2 ^ 30 }
-        requires count { count ≡ length values.old }
+        requires count { value_count ≡ length values.old }
         ensures ok { OnOk result ((first_kind (line_tests key self.old.tables self.old.triangles line.now values.old) ≡ None) × Adds key line.now values.old self.old self.new) }
         ensures valid { OnOk result (IsReading self.new) }
         ensures fault { IfErr result (λ stop. IsLineStop stop (first_kind (line_tests key self.old.tables self.old.triangles line.now values.old))) }
     {
         match key {
-            Keyword::Place => self.tables.add_place(values, count),
-            Keyword::Uv => self.tables.add_uv(values, count),
-            Keyword::Normal => self.tables.add_normal(values, count),
-            Keyword::Face => self.add_face(values, count),
+            Keyword::Place => self.tables.add_place(values, value_count),
+            Keyword::Uv => self.tables.add_uv(values, value_count),
+            Keyword::Normal => self.tables.add_normal(values, value_count),
+            Keyword::Face => self.add_face(values, value_count),
             Keyword::Use => self.use_material(alloc, line),
-            Keyword::Library => self.name_libraries(alloc, values, count),
-            Keyword::FreeForm => Err(LineStop::Fault(Kind::FreeForm)),
+            Keyword::Library => self.name_libraries(alloc, values, value_count),
+            Keyword::FreeForm => Err(LineStop::Fault(FaultKind::FreeForm)),
             Keyword::Other => Ok(()),
         }
     }

@@ -1,5 +1,5 @@
 // Why an OBJ file is refused.
-use crate::kind::Kind;
+use crate::fault_kind::FaultKind;
 use lc_num::Memory;
 
 /// Want of memory, or the first faulty line and the kind of the first test that it fails.
@@ -13,7 +13,7 @@ pub enum ObjStop {
 #[derive(Clone, Copy, Debug, PartialEq, Eq)]
 pub enum LineStop {
     Memory,
-    Fault(Kind),
+    Fault(FaultKind),
 }
 
 impl From<Memory> for LineStop {
@@ -27,13 +27,13 @@ impl From<Memory> for LineStop {
     }
 }
 
-impl From<Kind> for LineStop {
+impl From<FaultKind> for LineStop {
     ghost use Rattle.std.specs.Prelude.{◌≡◌};
     ghost use Rattle.lc_obj.specs.declared.stop.LineStop.TheVariants.{Fault};
 
     ghost from_gives = { λ kind e. e ≡ Fault kind };
 
-    fn from(kind: Kind) -> LineStop {
+    fn from(kind: FaultKind) -> LineStop {
         LineStop::Fault(kind)
     }
 }

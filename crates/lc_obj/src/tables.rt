@@ -32,41 +32,41 @@ impl Tables {
         }
     }
 
-    pub fn add_place(&mut self, values: &mut Fields, count: usize) -> Result<(), LineStop>
-        requires count { count ≡ length values.old }
+    pub fn add_place(&mut self, values: &mut Fields, value_count: usize) -> Result<(), LineStop>
+        requires count { value_count ≡ length values.old }
         requires tables { AreTables self.old }
         ensures ok { OnOk result ((first_kind (vector_tests (length self.old.places) values.old) ≡ None)
             × (self.new ≡ record self.old { places = self.old.places ++ vector values.old ∷ [] })) }
         ensures valid { OnOk result (AreTables self.new) }
         ensures fault { IfErr result (λ stop. IsLineStop stop (first_kind (vector_tests (length self.old.places) values.old))) }
     {
-        let place = vector_after(self.places.len(), values, count)?;
+        let place = vector_after(self.places.len(), values, value_count)?;
         self.places.push(place)?;
         Ok(())
     }
 
-    pub fn add_uv(&mut self, values: &mut Fields, count: usize) -> Result<(), LineStop>
-        requires count { count ≡ length values.old }
+    pub fn add_uv(&mut self, values: &mut Fields, value_count: usize) -> Result<(), LineStop>
+        requires count { value_count ≡ length values.old }
         requires tables { AreTables self.old }
         ensures ok { OnOk result ((first_kind (uv_tests (length self.old.uvs) values.old) ≡ None)
             × (self.new ≡ record self.old { uvs = self.old.uvs ++ uv values.old ∷ [] })) }
         ensures valid { OnOk result (AreTables self.new) }
         ensures fault { IfErr result (λ stop. IsLineStop stop (first_kind (uv_tests (length self.old.uvs) values.old))) }
     {
-        let place = uv_after(self.uvs.len(), values, count)?;
+        let place = uv_after(self.uvs.len(), values, value_count)?;
         self.uvs.push(place)?;
         Ok(())
     }
 
-    pub fn add_normal(&mut self, values: &mut Fields, count: usize) -> Result<(), LineStop>
-        requires count { count ≡ length values.old }
+    pub fn add_normal(&mut self, values: &mut Fields, value_count: usize) -> Result<(), LineStop>
+        requires count { value_count ≡ length values.old }
         requires tables { AreTables self.old }
         ensures ok { OnOk result ((first_kind (vector_tests (length self.old.normals) values.old) ≡ None)
             × (self.new ≡ record self.old { normals = self.old.normals ++ scaled (vector values.old) 16384 ∷ [] })) }
         ensures valid { OnOk result (AreTables self.new) }
         ensures fault { IfErr result (λ stop. IsLineStop stop (first_kind (vector_tests (length self.old.normals) values.old))) }
     {
-        let direction = vector_after(self.normals.len(), values, count)?;
+        let direction = vector_after(self.normals.len(), values, value_count)?;
         self.normals.push(scaled(direction, 16_384))?;
         Ok(())
     }

@@ -6,8 +6,8 @@ use Rattle.std.proofs.lemmas.List.Elements.{All-push}
 use Rattle.lc_rated.specs.declared.answer.Answer.{Answer}
 use Rattle.lc_record.specs.declared.head.Header.{Header}
 use Rattle.lc_record.specs.Record.{IsSample, line_bytes}
-use Rattle.lc_record.specs.declared.kind.Kind.{Kind}
-use Rattle.lc_record.specs.declared.kind.Kind.TheVariants as kind
+use Rattle.lc_record.specs.declared.fault_kind.FaultKind.{FaultKind}
+use Rattle.lc_record.specs.declared.fault_kind.FaultKind.TheVariants as kind
 use Rattle.lc_record.specs.Reading.{Begins, BeginsWithLines, IsLineFault, differs, ends, goes_on, fault_after, samples}
 use Rattle.lc_record.proofs.Pieces.{from_evals, line_parts}
 
@@ -42,15 +42,15 @@ module _ (h : Header) (answers : List Answer) (rest bytes : List ℕ) (begins : 
 
   -- where they end
   module _ (at : ℕ) (count : length answers ≡ at) where
-    fault_is : (k other : Kind) → k ≡ other → fault_after at k ≡ fault_after (length answers) other
-    fault_is k other e = ap (λ (l : Kind). fault_after at l) e ∙ ap (λ (n : ℕ). fault_after n other) (sym count)
+    fault_is : (k other : FaultKind) → k ≡ other → fault_after at k ≡ fault_after (length answers) other
+    fault_is k other e = ap (λ (l : FaultKind). fault_after at l) e ∙ ap (λ (n : ℕ). fault_after n other) (sym count)
 
-    pub ends_here : (k : Kind) → k ≡ kind.Count → at < samples h → true ≡ (length rest == 0) → IsLineFault h bytes (fault_after at k)
+    pub ends_here : (k : FaultKind) → k ≡ kind.Count → at < samples h → true ≡ (length rest == 0) → IsLineFault h bytes (fault_after at k)
     ends_here k is below none =
         let empty : rest ≡ [] = nil_from_length rest (eqb-true (length rest) 0 (sym none)) in
         ends answers (subst (λ (r : List ℕ). BeginsWithLines h answers r bytes) empty begins) (omega arith) (fault_is k kind.Count is)
 
-    pub differs_here : (k : Kind) → k ≡ kind.Line → at < samples h → false ≡ (length rest == 0) → (Begins (IsSample h.cut) line_bytes rest → ⊥)
+    pub differs_here : (k : FaultKind) → k ≡ kind.Line → at < samples h → false ≡ (length rest == 0) → (Begins (IsSample h.cut) line_bytes rest → ⊥)
         → IsLineFault h bytes (fault_after at k)
     differs_here k is below some none =
         differs answers rest begins (omega arith) (not_nil rest some) none (fault_is k kind.Line is)

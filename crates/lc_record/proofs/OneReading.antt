@@ -6,12 +6,12 @@ use Rattle.std.proofs.lemmas.List.Elements.{All-head, All-tail}
 use Rattle.lc_num.specs.Faults.{Fault}
 use Rattle.lc_rated.specs.declared.answer.Answer.{Answer}
 use Rattle.lc_record.specs.declared.head.Header.{Header}
-use Rattle.lc_record.specs.declared.kind.Kind.{Kind}
-use Rattle.lc_record.specs.declared.kind.Kind.TheVariants as kind
+use Rattle.lc_record.specs.declared.fault_kind.FaultKind.{FaultKind}
+use Rattle.lc_record.specs.declared.fault_kind.FaultKind.TheVariants as kind
 use Rattle.lc_record.specs.declared.reader.Record.{Record}
 use Rattle.lc_record.specs.declared.stop.RecordStop.{RecordStop}
 use Rattle.lc_record.specs.declared.stop.RecordStop.TheVariants as stop
-use Rattle.lc_record.specs.Record.{IsHeader, IsSample, header_bytes, line_bytes, text}
+use Rattle.lc_record.specs.Record.{IsHeader, IsSample, record_header, line_bytes, text}
 use Rattle.lc_record.specs.Reading.{Begins, BeginsWithLines, IsFirstFault, IsLineFault, IsStop, IsTextOf, OrMemory, after_header, differs, ends, fault_after, goes_on, no_header, samples}
 use Rattle.lc_record.specs.Pieces.{AreLinesOf}
 use Rattle.lc_record.proofs.LinesRead.{line_not_empty}
@@ -58,7 +58,7 @@ text_longest h answers bytes t = record {
 }
 
 -- the kind of the fault where k of n lines stand
-kind_at : ℕ → ℕ → List ℕ → Kind
+kind_at : ℕ → ℕ → List ℕ → FaultKind
 kind_at n k [] = kind.Count
 kind_at n k (b ∷ bs) = cond (ltb k n) kind.Line kind.Count
 
@@ -90,21 +90,21 @@ ends_at h bytes fault (differs answers rest begins below some none is) = record 
   rest = rest;
   longest = record { begins = begins; within = omega arith; no_more = λ _. none };
   incomplete = λ empty _. some empty;
-  is = is ∙ ap (λ (k : Kind). fault_after (length answers) k) (sym (kind_differs (samples h) (length answers) rest some below));
+  is = is ∙ ap (λ (k : FaultKind). fault_after (length answers) k) (sym (kind_differs (samples h) (length answers) rest some below));
 }
 ends_at h bytes fault (ends answers begins below is) = record {
   answers = answers;
   rest = [];
   longest = record { begins = begins; within = omega arith; no_more = λ _. no_line h.cut };
   incomplete = λ _ all. omega arith;
-  is = is ∙ ap (λ (k : Kind). fault_after (length answers) k) (sym (kind_ends (samples h) (length answers)));
+  is = is ∙ ap (λ (k : FaultKind). fault_after (length answers) k) (sym (kind_ends (samples h) (length answers)));
 }
 ends_at h bytes fault (goes_on answers rest begins all some is) = record {
   answers = answers;
   rest = rest;
   longest = record { begins = begins; within = omega arith; no_more = λ below. absurd (omega arith) };
   incomplete = λ empty _. some empty;
-  is = is ∙ ap (λ (k : Kind). fault_after (length answers) k) (sym (kind_goes_on (samples h) (length answers) rest all));
+  is = is ∙ ap (λ (k : FaultKind). fault_after (length answers) k) (sym (kind_goes_on (samples h) (length answers) rest all));
 }
 
 line_fault_same : (h : Header) (bytes : List ℕ) (f g : Fault) → h.cut ≤ 65_536 → IsLineFault h bytes f → IsLineFault h bytes g → f ≡ g
@@ -125,21 +125,21 @@ lines_or_fault h answers bytes f few t p =
     v.incomplete (sym one.1) (omega (arith, count, t.count))
 
 -- a header and its lines are a text
-pub text_of : (h : Header) (answers : List Answer) (rest bytes : List ℕ) → IsHeader h → bytes ≡ header_bytes h ++ rest → AreLinesOf h answers rest → IsTextOf h answers bytes
+pub text_of : (h : Header) (answers : List Answer) (rest bytes : List ℕ) → IsHeader h → bytes ≡ record_header h ++ rest → AreLinesOf h answers rest → IsTextOf h answers bytes
 unfolding text
 text_of h answers rest bytes valid begins t = record {
   header = valid;
   valid = t.valid;
   count = t.count;
-  whole = begins ∙ ap (λ (r : List ℕ). header_bytes h ++ r) t.lines;
+  whole = begins ∙ ap (λ (r : List ℕ). record_header h ++ r) t.lines;
 }
 
 -- a fault of the lines after a header is the first one
-pub stop_after : (h : Header) (rest bytes : List ℕ) → IsHeader h → bytes ≡ header_bytes h ++ rest → (s : RecordStop) → IsStop s (IsLineFault h rest) → IsStop s (IsFirstFault bytes)
+pub stop_after : (h : Header) (rest bytes : List ℕ) → IsHeader h → bytes ≡ record_header h ++ rest → (s : RecordStop) → IsStop s (IsLineFault h rest) → IsStop s (IsFirstFault bytes)
 stop_after h rest bytes valid begins stop.Memory fault = tt
 stop_after h rest bytes valid begins (stop.Fault line k) fault = after_header h rest valid begins fault
 
-lines_of_text : (h : Header) (answers : List Answer) (bytes : List ℕ) → IsTextOf h answers bytes → bytes ≡ header_bytes h ++ flat_map line_bytes answers
+lines_of_text : (h : Header) (answers : List Answer) (bytes : List ℕ) → IsTextOf h answers bytes → bytes ≡ record_header h ++ flat_map line_bytes answers
 unfolding text
 lines_of_text h answers bytes t = t.whole
 

@@ -8,7 +8,7 @@ use Rattle.lc_num.specs.declared.rules.Rule.{Rule}
 use Rattle.lc_num.specs.declared.rules.Rule.TheVariants as rule
 use Rattle.lc_rated.specs.declared.answer.Answer.{Answer}
 use Rattle.lc_record.specs.declared.head.Header.{Header}
-use Rattle.lc_record.specs.Record.{IsHeader, IsSample, header_bytes, line_bytes}
+use Rattle.lc_record.specs.Record.{IsHeader, IsSample, record_header, line_bytes}
 use Rattle.lc_record.specs.Pieces.{IsWithin, colour, ended}
 use Rattle.lc_record.proofs.Decimals.{Holds, holds, ends_at}
 
@@ -111,8 +111,8 @@ from_width h after = ended 32 h.width ++ from_height h after
 abbrev pub from_rule : Header → List ℕ → List ℕ
 from_rule h after = ended 32 (rule_number h.rule) ++ from_width h after
 
-pub header_parts : (h : Header) (after : List ℕ) → header_bytes h ++ after ≡ codes "LCB " ++ from_rule h after
-unfolding header_bytes
+pub header_parts : (h : Header) (after : List ℕ) → record_header h ++ after ≡ codes "LCB " ++ from_rule h after
+unfolding record_header
 header_parts h after = simp append_assoc
 
 rule_small : (r : Rule) → rule_number r < 2 ^ 120
@@ -127,7 +127,7 @@ rules_same rule.Two rule.One e = absurd (omega (arith, e))
 rules_same rule.Two rule.Two e = refl
 
 module _ (h : Header) (after : List ℕ) (valid : IsHeader h) (x bytes : List ℕ) where
-  pub mark_same : bytes ≡ codes "LCB " ++ x → bytes ≡ header_bytes h ++ after → x ≡ from_rule h after
+  pub mark_same : bytes ≡ codes "LCB " ++ x → bytes ≡ record_header h ++ after → x ≡ from_rule h after
   mark_same found e = append_cancel_left (codes "LCB ") x (from_rule h after) (sym found ∙ e ∙ header_parts h after)
 
   pub rule_same : (r : Rule) → bytes ≡ ended 32 (rule_number r) ++ x → bytes ≡ from_rule h after → (r ≡ h.rule) × (x ≡ from_width h after)
@@ -154,9 +154,9 @@ module _ (h : Header) (after : List ℕ) (valid : IsHeader h) (x bytes : List �
 abbrev header : Rule → ℕ → ℕ → ℕ → ℕ → ℕ → Header
 header rule width height grid cut permille = record { rule = rule; width = width; height = height; grid = grid; cut = cut; permille = permille }
 
-pub headers_same : (h k : Header) (x y : List ℕ) → IsHeader h → IsHeader k → header_bytes h ++ x ≡ header_bytes k ++ y → (h ≡ k) × (x ≡ y)
+pub headers_same : (h k : Header) (x y : List ℕ) → IsHeader h → IsHeader k → record_header h ++ x ≡ record_header k ++ y → (h ≡ k) × (x ≡ y)
 headers_same h k x y v w e =
-    let mark = mark_same k y w (from_rule h x) (header_bytes h ++ x) (header_parts h x) e in
+    let mark = mark_same k y w (from_rule h x) (record_header h ++ x) (header_parts h x) e in
     let rule = rule_same k y w (from_width h x) (from_rule h x) h.rule refl mark in
     let width = width_same k y w (from_height h x) (from_width h x) h.width (v.width, refl) rule.1 in
     let height = height_same k y w (from_grid h x) (from_height h x) h.height (v.height, refl) width.1 in

@@ -8,11 +8,11 @@ use Rattle.std.specs.Cmp.{unsigned_Decides}
 use Rattle.lc_num.specs.Faults.{Fault}
 use Rattle.lc_rated.specs.declared.answer.Answer.{Answer}
 use Rattle.lc_record.specs.declared.head.Header.{Header}
-use Rattle.lc_record.specs.declared.kind.Kind.TheVariants as kind
+use Rattle.lc_record.specs.declared.fault_kind.FaultKind.TheVariants as kind
 use Rattle.lc_record.specs.declared.reader.Record.{Record}
 use Rattle.lc_record.specs.declared.stop.RecordStop.{RecordStop}
 use Rattle.lc_record.specs.declared.stop.RecordStop.TheVariants as stop
-use Rattle.lc_record.specs.Record.{IsHeader, IsSample, header_bytes, line_bytes}
+use Rattle.lc_record.specs.Record.{IsHeader, IsSample, record_header, line_bytes}
 use Rattle.lc_record.specs.Reading.{Begins, BeginsWithLines, IsFirstFault, IsLineFault, IsStop, IsTextOf, after_header, differs, ends, fault_after, goes_on, kind_number, no_header, samples}
 use Rattle.lc_record.specs.Pieces.{AreLinesOf}
 use Rattle.lc_record.specs.Readings.{after, and_then, answers, headers, lines_in, missing, record_in, told_by}
@@ -121,8 +121,8 @@ module _ (h : Header) (whole : List ℕ) (f : Fault) where
 
 -- ---- records
 
-header_told : (bytes : List ℕ) (h : Header) → told_by header_bytes headers bytes ≡ Some h → IsHeader h × (bytes ≡ header_bytes h ++ after (header_bytes h) bytes)
-header_told bytes h e = told_some header_bytes headers IsHeader bytes h headers_within e
+header_told : (bytes : List ℕ) (h : Header) → told_by record_header headers bytes ≡ Some h → IsHeader h × (bytes ≡ record_header h ++ after (record_header h) bytes)
+header_told bytes h e = told_some record_header headers IsHeader bytes h headers_within e
 
 pub text_told : (bytes : List ℕ) (r : Record) → record_in bytes ≡ Ok r → IsTextOf r.header r.lines bytes
 unfolding record_in
@@ -131,24 +131,24 @@ text_told bytes r e =
     let h = first.0 in
     let head = header_told bytes h (found _ _ h first.1) in
     let others = then_ok _ _ r first.2 in
-    let lines = lines_told (samples h) 0 h.cut (after (header_bytes h) bytes) others.0 others.1 in
+    let lines = lines_told (samples h) 0 h.cut (after (record_header h) bytes) others.0 others.1 in
     let whole : Record = record { header = h; lines = others.0 } in
     let is : whole ≡ r = let all = others.2 in cc in
     subst (λ (s : Record). IsTextOf s.header s.lines bytes) is
-    (text_of h others.0 (after (header_bytes h) bytes) bytes head.0 head.1 (record { valid = lines.valid; count = lines.count; lines = lines.whole }))
+    (text_of h others.0 (after (record_header h) bytes) bytes head.0 head.1 (record { valid = lines.valid; count = lines.count; lines = lines.whole }))
 
 pub fault_told : (bytes : List ℕ) (f : Fault) → record_in bytes ≡ Err f → IsFirstFault bytes f
 unfolding record_in
 fault_told bytes f e = elim (then_err _ _ f e) [
   | inl here ↦
       let none = lost _ _ f here in
-      no_header (told_none header_bytes headers IsHeader bytes headers_have none.0) none.1
+      no_header (told_none record_header headers IsHeader bytes headers_have none.0) none.1
   | inr (h, first, next) ↦
       let head = header_told bytes h (found _ _ h first) in
       elim (then_err _ _ f next) [
         | inl later ↦
-            after_header h (after (header_bytes h) bytes) head.0 head.1
-            (line_fault_told h (after (header_bytes h) bytes) f (samples h) 0 (after (header_bytes h) bytes) []
+            after_header h (after (record_header h) bytes) head.0 head.1
+            (line_fault_told h (after (record_header h) bytes) f (samples h) 0 (after (record_header h) bytes) []
             (record { valid = All-nil (IsSample h.cut); lines = refl }) refl (omega arith) later)
         | inr (lines, ok, other) ↦ absurd (err_or_ok f (record { header = h; lines = lines }) (sym other))
       ]

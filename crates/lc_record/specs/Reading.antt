@@ -3,11 +3,11 @@ use Rattle.std.specs.Prelude.{◌≡◌, ◌≢◌, ◌⊎◌, ℕ, ◌*◌, ◌
 use Rattle.lc_num.specs.Faults.{Fault}
 use Rattle.lc_rated.specs.declared.answer.Answer.{Answer}
 use Rattle.lc_record.specs.declared.head.Header.{Header}
-use Rattle.lc_record.specs.declared.kind.Kind.{Kind}
-use Rattle.lc_record.specs.declared.kind.Kind.TheVariants as kind
+use Rattle.lc_record.specs.declared.fault_kind.FaultKind.{FaultKind}
+use Rattle.lc_record.specs.declared.fault_kind.FaultKind.TheVariants as kind
 use Rattle.lc_record.specs.declared.stop.RecordStop.{RecordStop}
 use Rattle.lc_record.specs.declared.stop.RecordStop.TheVariants as stop
-use Rattle.lc_record.specs.Record.{IsHeader, IsSample, header_bytes, line_bytes, text}
+use Rattle.lc_record.specs.Record.{IsHeader, IsSample, record_header, line_bytes, text}
 
 -- the bytes begin with the text of an allowed value
 abbrev pub Begins : {A : Type 0} → (A → Type 0) → (A → List ℕ) → List ℕ → Type 0
@@ -30,13 +30,13 @@ pub record BeginsWithLines (h : Header) (answers : List Answer) (rest bytes : Li
   pub lines : bytes ≡ flat_map line_bytes answers ++ rest
 
 -- the numbers of the kinds of fault
-abbrev pub kind_number : Kind → ℕ
+abbrev pub kind_number : FaultKind → ℕ
 kind_number kind.Header = 1
 kind_number kind.Line = 2
 kind_number kind.Count = 3
 
 -- A fault after a header and so many lines. Lines are counted from 1, and the header is the first.
-abbrev pub fault_after : ℕ → Kind → Fault
+abbrev pub fault_after : ℕ → FaultKind → Fault
 fault_after lines kind = record { line = lines + 2; kind = kind_number kind }
 
 -- the first fault of the bytes after a header
@@ -53,8 +53,8 @@ pub data IsLineFault (h : Header) (bytes : List ℕ) (fault : Fault) : Type 0 wh
 
 -- the first fault of the bytes
 pub data IsFirstFault (bytes : List ℕ) (fault : Fault) : Type 0 where
-  no_header : (Begins IsHeader header_bytes bytes → ⊥) → fault ≡ record { line = 1; kind = kind_number kind.Header } → IsFirstFault bytes fault
-  after_header : (h : Header) (rest : List ℕ) → IsHeader h → bytes ≡ header_bytes h ++ rest → IsLineFault h rest fault → IsFirstFault bytes fault
+  no_header : (Begins IsHeader record_header bytes → ⊥) → fault ≡ record { line = 1; kind = kind_number kind.Header } → IsFirstFault bytes fault
+  after_header : (h : Header) (rest : List ℕ) → IsHeader h → bytes ≡ record_header h ++ rest → IsLineFault h rest fault → IsFirstFault bytes fault
 
 -- a fault is one of these; want of memory is free
 abbrev pub IsStop : RecordStop → (Fault → Type 0) → Type 0

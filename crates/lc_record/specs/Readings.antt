@@ -7,10 +7,10 @@ use Rattle.lc_num.specs.declared.rules.Rule.{Rule}
 use Rattle.lc_num.specs.declared.rules.Rule.TheVariants as rule
 use Rattle.lc_rated.specs.declared.answer.Answer.{Answer}
 use Rattle.lc_record.specs.declared.head.Header.{Header}
-use Rattle.lc_record.specs.declared.kind.Kind.{Kind}
-use Rattle.lc_record.specs.declared.kind.Kind.TheVariants as kind
+use Rattle.lc_record.specs.declared.fault_kind.FaultKind.{FaultKind}
+use Rattle.lc_record.specs.declared.fault_kind.FaultKind.TheVariants as kind
 use Rattle.lc_record.specs.declared.reader.Record.{Record}
-use Rattle.lc_record.specs.Record.{header_bytes, line_bytes}
+use Rattle.lc_record.specs.Record.{record_header, line_bytes}
 use Rattle.lc_record.specs.Reading.{fault_after, kind_number, samples}
 
 -- both rules
@@ -49,7 +49,7 @@ abbrev pub after : List ℕ → List ℕ → List ℕ
 after begun bytes = drop (length begun) bytes
 
 -- the kind of the fault where a line should stand and none does
-abbrev pub missing : List ℕ → Kind
+abbrev pub missing : List ℕ → FaultKind
 missing [] = kind.Count
 missing (byte ∷ bytes) = kind.Line
 
@@ -69,6 +69,6 @@ lines_in (suc left) before cut bytes =
 -- the record that the bytes are the text of, or their first fault
 unfoldable pub record_in : List ℕ → Result Record Fault
 record_in bytes =
-    and_then (ok_or (told_by header_bytes headers bytes) (record { line = 1; kind = kind_number kind.Header })) (λ header.
-    and_then (lines_in (samples header) 0 header.cut (after (header_bytes header) bytes)) (λ lines.
+    and_then (ok_or (told_by record_header headers bytes) (record { line = 1; kind = kind_number kind.Header })) (λ header.
+    and_then (lines_in (samples header) 0 header.cut (after (record_header header) bytes)) (λ lines.
     Ok (record { header = header; lines = lines })))

@@ -10,8 +10,8 @@ abbrev pub field : ℕ → List ℕ
 field n = decimal n ++ codes " "
 
 -- the number of the rule, the width, the height, the grid, the cut and the thousandths
-unfoldable pub header_bytes : Header → List ℕ
-header_bytes h =
+unfoldable pub record_header : Header → List ℕ
+record_header h =
     codes "LCB " ++ field (rule_number h.rule) ++ field h.width ++ field h.height ++ field h.grid ++ field h.cut
     ++ decimal h.permille ++ codes "\n"
 
@@ -38,4 +38,4 @@ pub record IsHeader (h : Header) : Type 0 where
 
 -- a whole record: its header, and a line for each answer
 unfoldable pub text : Header → List Answer → List ℕ
-text header answers = header_bytes header ++ flat_map line_bytes answers
+text header answers = record_header header ++ flat_map line_bytes answers

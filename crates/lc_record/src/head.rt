@@ -1,6 +1,6 @@
 // The header of a record.
 ghost use Rattle.std.specs.Prelude.{◌≡◌, ◌++◌, OnOk, OnErr};
-ghost use Rattle.lc_record.specs.Record.{header_bytes};
+ghost use Rattle.lc_record.specs.Record.{record_header};
 
 use crate::line::Line;
 use lc_num::{Memory, Rule, Text};
@@ -23,9 +23,9 @@ pub struct Header {
 }
 
 /// Appends the header. On `Memory` the text stays as it was.
-#[tactic(auto, using(crate::proofs::Lengths::count_length), unfolding(crate::specs::Record::header_bytes))]
+#[tactic(auto, using(crate::proofs::Lengths::count_length), unfolding(crate::specs::Record::record_header))]
 pub fn header_text(h: &Header, into: &mut Text) -> Result<(), Memory>
-    ensures ok { OnOk result (into.new ≡ into.old ++ header_bytes h.now) }
+    ensures ok { OnOk result (into.new ≡ into.old ++ record_header h.now) }
     ensures memory { OnErr result (into.new ≡ into.old) }
 {
     let mut line = Line::new();

@@ -1,8 +1,8 @@
 //! The record of a picture: its header, and a line for the answer at each sample.
 #![tactic(auto)]
 
+mod fault_kind;
 mod head;
-mod kind;
 mod laws;
 mod line;
 mod number;

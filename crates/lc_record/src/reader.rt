@@ -6,13 +6,13 @@ ghost use Rattle.lc_num.specs.Rules.{rule_number};
 ghost use Rattle.lc_num.specs.declared.rules.Rule.{Rule as RuleValue};
 ghost use Rattle.lc_rated.specs.declared.answer.Answer.{Answer as AnswerValue};
 ghost use Rattle.lc_record.specs.declared.head.Header.{Header as HeaderValue};
-ghost use Rattle.lc_record.specs.Record.{IsHeader, IsSample, field, header_bytes, line_bytes};
+ghost use Rattle.lc_record.specs.Record.{IsHeader, IsSample, field, record_header, line_bytes};
 ghost use Rattle.lc_record.specs.Reading.{Begins, samples, IsTextOf, IsFirstFault, IsLineFault, IsStop, OrMemory, kind_number};
 ghost use Rattle.lc_record.specs.Readings.{record_in};
 ghost use Rattle.lc_record.specs.Pieces.{colour, AreLinesOf};
 
+use crate::fault_kind::FaultKind;
 use crate::head::Header;
-use crate::kind::Kind;
 use crate::number::number;
 use crate::stop::RecordStop;
 use lc_num::{List, Rgb, Rule};
@@ -51,8 +51,8 @@ fn rule_in(bytes: &[u8]) -> Option<(Rule, &[u8])>
 
 /// The header that the bytes begin with, and the bytes after it.
 fn header_of(bytes: &[u8]) -> Option<(Header, &[u8])>
-    ensures found { IfSome result (λ read. IsHeader read.0 × (bytes.now ≡ header_bytes read.0 ++ read.1.now)) }
-    ensures none { IfNone result (Begins IsHeader header_bytes bytes.now → ⊥) }
+    ensures found { IfSome result (λ read. IsHeader read.0 × (bytes.now ≡ record_header read.0 ++ read.1.now)) }
+    ensures none { IfNone result (Begins IsHeader record_header bytes.now → ⊥) }
 {
     let rest = after_mark(bytes)?;
     let (rule, rest) = rule_in(rest)?;
@@ -114,7 +114,7 @@ fn samples(header: &Header) -> u64
 }
 
 /// A fault after the header and so many lines.
-fn fault_after(lines: u64, kind: Kind) -> RecordStop
+fn fault_after(lines: u64, kind: FaultKind) -> RecordStop
     requires { lines ≤ 536_870_912 }
     ensures { result ≡ RecordStop.Fault (lines + 2) (kind_number kind) }
 {
@@ -137,9 +137,9 @@ fn lines_of(alloc: Global, header: &Header, bytes: &[u8]) -> Result<List<Answer>
     for before in 0..count {
         let Some((answer, after)) = answer_of(rest, header.cut) else {
             let kind = if rest.is_empty() {
-                Kind::Count
+                FaultKind::Count
             } else {
-                Kind::Line
+                FaultKind::Line
             };
             return Err(fault_after(before, kind));
         };
@@ -147,7 +147,7 @@ fn lines_of(alloc: Global, header: &Header, bytes: &[u8]) -> Result<List<Answer>
         rest = after;
     }
     if !rest.is_empty() {
-        return Err(fault_after(count, Kind::Count));
+        return Err(fault_after(count, FaultKind::Count));
     }
     Ok(lines)
 }
@@ -161,7 +161,7 @@ fn read(alloc: Global, bytes: &[u8]) -> Result<Record, RecordStop>
     let Some((header, rest)) = header_of(bytes) else {
         return Err(RecordStop::Fault {
             line: 1,
-            kind: Kind::Header.number(),
+            kind: FaultKind::Header.number(),
         });
     };
     let lines = lines_of(alloc, &header, rest)?;

@@ -137,18 +137,18 @@ words_rest bs =
 -- ---- the first word from a place on
 
 -- the blanks after `at` end at `start`, and the word after them at `end`
-pub record Cut (line : List ℕ) (at start end : ℕ) : Type 0 where
+pub record WordSpan (line : List ℕ) (at start end : ℕ) : Type 0 where
   pub start_is : start ≡ at + prefix_len is_blank (drop at (spaced line))
   pub end_is : end ≡ start + position_or_len is_blank (drop start (spaced line))
 
-words_cut : (line : List ℕ) (at start end : ℕ) → Cut line at start end → words (drop at (spaced line)) ≡ words (drop start (spaced line))
-words_cut line at start end cut =
+words_from_start : (line : List ℕ) (at start end : ℕ) → WordSpan line at start end → words (drop at (spaced line)) ≡ words (drop start (spaced line))
+words_from_start line at start end cut =
     let n = prefix_len is_blank (drop at (spaced line)) in
     sym (words_after_gap (drop at (spaced line))) ∙ ap words (drop-drop n at (spaced line))
     ∙ ap (λ (i : ℕ). words (drop i (spaced line))) (omega (arith, cut.start_is))
 
 -- between the two places the line has no blanks
-word_stays : (line : List ℕ) (at start end : ℕ) → Cut line at start end → take (end - start) (drop start (spaced line)) ≡ take (end - start) (drop start line)
+word_stays : (line : List ℕ) (at start end : ℕ) → WordSpan line at start end → take (end - start) (drop start (spaced line)) ≡ take (end - start) (drop start line)
 word_stays line at start end cut =
     let n = end - start in
     let spaces = drop start (spaced line) in
@@ -163,21 +163,21 @@ word_stays line at start end cut =
     get_or-take n spaces i 0 below ∙ get_or-drop start (spaced line) i 0 ∙ own_byte line (start + i) within none
     ∙ sym (get_or-take n own i 0 below ∙ get_or-drop start line i 0))
 
-word_is : (line : List ℕ) (at start end : ℕ) → Cut line at start end → before_first is_blank (drop start (spaced line)) ≡ take (end - start) (drop start line)
+word_is : (line : List ℕ) (at start end : ℕ) → WordSpan line at start end → before_first is_blank (drop start (spaced line)) ≡ take (end - start) (drop start line)
 word_is line at start end cut =
     ap (λ (n : ℕ). take n (drop start (spaced line))) (omega (arith, cut.end_is)) ∙ word_stays line at start end cut
 
-first_word : (line : List ℕ) (at start end : ℕ) → Cut line at start end → 0 < length (take (end - start) (drop start line)) → words (drop at (spaced line)) ≡ take (end - start) (drop start line) ∷ words (drop end (spaced line))
+first_word : (line : List ℕ) (at start end : ℕ) → WordSpan line at start end → 0 < length (take (end - start) (drop start line)) → words (drop at (spaced line)) ≡ take (end - start) (drop start line) ∷ words (drop end (spaced line))
 first_word line at start end cut some =
     let spaces = drop start (spaced line) in
     let word = word_is line at start end cut in
-    words_cut line at start end cut ∙ words_first spaces (omega (arith, ap length word))
+    words_from_start line at start end cut ∙ words_first spaces (omega (arith, ap length word))
     ∙ ap (λ (ws : List (List ℕ)). before_first is_blank spaces ∷ ws) (words_rest spaces ∙ ap words (drop-drop (position_or_len is_blank spaces) start (spaced line)))
     ∙ ap (λ (w : List ℕ). w ∷ words (drop (start + position_or_len is_blank spaces) (spaced line))) word
     ∙ ap (λ (n : ℕ). take (end - start) (drop start line) ∷ words (drop n (spaced line))) (sym cut.end_is)
 
 -- no word is left
-nothing_left : (line : List ℕ) (at start end : ℕ) → Cut line at start end → length (take (end - start) (drop start line)) ≡ 0 → drop start (spaced line) ≡ []
+nothing_left : (line : List ℕ) (at start end : ℕ) → WordSpan line at start end → length (take (end - start) (drop start line)) ≡ 0 → drop start (spaced line) ≡ []
 nothing_left line at start end cut none =
     let gap = prefix_len is_blank (drop at (spaced line)) in
     let spaces = drop start (spaced line) in
@@ -196,21 +196,21 @@ nothing_left line at start end cut none =
 
 -- ---- the first field from a place on
 
-pub no_field : (line : List ℕ) (at start end : ℕ) → Cut line at start end → length (take (end - start) (drop start line)) ≡ 0 → fields_in (drop at (spaced line)) ≡ []
+pub no_field : (line : List ℕ) (at start end : ℕ) → WordSpan line at start end → length (take (end - start) (drop start line)) ≡ 0 → fields_in (drop at (spaced line)) ≡ []
 no_field line at start end cut none =
-    ap (λ (ws : List (List ℕ)). take_while is_no_comment ws) (words_cut line at start end cut ∙ ap words (nothing_left line at start end cut none))
+    ap (λ (ws : List (List ℕ)). take_while is_no_comment ws) (words_from_start line at start end cut ∙ ap words (nothing_left line at start end cut none))
 
-first_by : (line : List ℕ) (at start end : ℕ) (comment : Bool) → Cut line at start end → 0 < length (take (end - start) (drop start line)) → is_comment (take (end - start) (drop start line)) ≡ comment
+first_by : (line : List ℕ) (at start end : ℕ) (comment : Bool) → WordSpan line at start end → 0 < length (take (end - start) (drop start line)) → is_comment (take (end - start) (drop start line)) ≡ comment
     → fields_in (drop at (spaced line)) ≡ cond (not comment) (take (end - start) (drop start line) ∷ fields_in (drop end (spaced line))) []
 first_by line at start end comment cut some c =
     let word = take (end - start) (drop start line) in
     ap (λ (ws : List (List ℕ)). take_while is_no_comment ws) (first_word line at start end cut some) ∙ take_while-cons is_no_comment word (words (drop end (spaced line)))
     ∙ ap (λ (x : Bool). cond (not x) (word ∷ fields_in (drop end (spaced line))) []) c
 
-pub first_comment : (line : List ℕ) (at start end : ℕ) → Cut line at start end → 0 < length (take (end - start) (drop start line)) → is_comment (take (end - start) (drop start line)) ≡ true → fields_in (drop at (spaced line)) ≡ []
+pub first_comment : (line : List ℕ) (at start end : ℕ) → WordSpan line at start end → 0 < length (take (end - start) (drop start line)) → is_comment (take (end - start) (drop start line)) ≡ true → fields_in (drop at (spaced line)) ≡ []
 first_comment line at start end cut some c = first_by line at start end true cut some c
 
-pub first_field : (line : List ℕ) (at start end : ℕ) → Cut line at start end → 0 < length (take (end - start) (drop start line)) → is_comment (take (end - start) (drop start line)) ≡ false
+pub first_field : (line : List ℕ) (at start end : ℕ) → WordSpan line at start end → 0 < length (take (end - start) (drop start line)) → is_comment (take (end - start) (drop start line)) ≡ false
     → fields_in (drop at (spaced line)) ≡ take (end - start) (drop start line) ∷ fields_in (drop end (spaced line))
 first_field line at start end cut some c = first_by line at start end false cut some c
 

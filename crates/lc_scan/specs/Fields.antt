@@ -1,5 +1,5 @@
 -- The fields of a logical line.
-use Rattle.std.specs.Prelude.{ℕ, ◌+◌, ◌-◌, Bool, not, ◌||◌, ◌&&◌, ◌==◌, nat_eq, nat_lt, List, [], ◌∷◌, ◌++◌, length, drop, take, filter, take_while, slice_index, if◌then◌else◌}
+use Rattle.std.specs.Prelude.{ℕ, ◌+◌, ◌-◌, Bool, not, ◌||◌, ◌&&◌, ◌==◌, nat_eq, nat_lt, List, [], ◌∷◌, ◌++◌, length, drop, take, filter, take_while, slice_index, slice_index_or, if◌then◌else◌}
 use Rattle.std.specs.List.{slice_split, starts_with, prefix_len, suffix_len}
 use Rattle.lc_scan.specs.Lines.{joins}
 
@@ -42,6 +42,18 @@ fields_in bytes = take_while (λ word. not (is_comment word)) (words bytes)
 -- the fields of a line
 abbrev pub fields : List ℕ → List (List ℕ)
 fields line = fields_in (spaced line)
+
+-- ---- a line's keyword is its first field, and its values are the others
+
+-- the k-th of these fields
+abbrev pub field_at : ℕ → List (List ℕ) → List ℕ
+field_at k fs = slice_index_or fs k []
+
+abbrev pub keyword_in : List ℕ → List ℕ
+keyword_in line = field_at 0 (fields line)
+
+abbrev pub values_in : List ℕ → List (List ℕ)
+values_in line = drop 1 (fields line)
 
 -- ---- what follows the first field
 

@@ -3,7 +3,9 @@ pub mod Fields
 pub mod Spoken
 pub mod Faults
 pub mod Whole
+pub mod Coordinates
 pub mod Decimal
 pub mod Spelling
 pub mod Names
+pub mod Keywords
 pub mod LineTests

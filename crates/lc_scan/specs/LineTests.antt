@@ -1,5 +1,5 @@
--- The tests that a line has to pass, in their order. Each gives the kind of its fault where it fails; a reader has kinds
--- of its own.
+-- The tests that a line has to pass, in their order. Each gives the kind of its fault where it fails; a reader has
+-- kinds of its own.
 use Rattle.std.specs.Prelude.{◌≡◌, Bool, List, [], ◌∷◌, Option, Some, None, if◌then◌else◌, Result, MatchResult}
 
 -- the kind, where the test does not pass
@@ -17,5 +17,5 @@ abbrev pub IsAnswer : {K V : Type 0} → Option K → V → Result V K → Type 
 IsAnswer fault said answer = MatchResult answer (λ value. (fault ≡ None) × (said ≡ value)) (λ kind. fault ≡ Some kind)
 
 -- the same where the line says no more than that no test fails
-abbrev pub IsPassed : {K V : Type 0} → Option K → Result V K → Type 0
-IsPassed fault answer = MatchResult answer (λ _. fault ≡ None) (λ kind. fault ≡ Some kind)
+abbrev pub IsTested : {K V : Type 0} → Option K → Result V K → Type 0
+IsTested fault answer = MatchResult answer (λ _. fault ≡ None) (λ kind. fault ≡ Some kind)

@@ -68,7 +68,8 @@ pub record IsDecimal (s : Spelling) : Type 0 where
   pub exponent : IsExponent s.exponent
 
 abbrev pub with_exponent : Bool → List ℕ → List ℕ → Option Exponent → Parts
-with_exponent negative before after None = record { negative = negative; before = before; after = after; shrinks = false; exponent = None }
+with_exponent negative before after None =
+    record { negative = negative; before = before; after = after; shrinks = false; exponent = None }
 with_exponent negative before after (Some e) =
     record { negative = negative; before = before; after = after; shrinks = is_minus e.sign; exponent = Some e.digits }
 

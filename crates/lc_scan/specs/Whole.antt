@@ -17,6 +17,11 @@ counted digits =
     then Err TooLong
     else if nat_lt 18_446_744_073_709_551_615 (digits_value 10 digits) then Err Range else Ok (digits_value 10 digits)
 
+-- the value of a whole number, or 0 where it has a fault
+abbrev pub value : Result ℕ NumFault → ℕ
+value (Ok n) = n
+value (Err fault) = 0
+
 -- the whole number that a field spells, or the field's fault
 abbrev pub whole_of : List ℕ → Result ℕ NumFault
 whole_of field = if are_digits field then counted field else Err Form

@@ -39,8 +39,8 @@ impl<'a> Lines<'a> {
         }
     }
 
-    /// The next line: the number of its first physical line, counted from 1, and its bytes. They keep joins and comment,
-    /// and leave out the line feed that ends the line.
+    /// The next line: the number of its first physical line, counted from 1, and its bytes. They keep joins and
+    /// comment, and leave out the line feed that ends the line.
     pub fn next_line(&mut self) -> Option<(u32, &'a [u8])>
         ensures { MatchOption result
             ((self.old ≡ []) × (self.new ≡ []))
@@ -80,7 +80,8 @@ pub fn joins(bytes: &[u8]) -> bool
 fn first_line(number: u32, text: &[u8]) -> (&[u8], u32, &[u8])
     requires some { 0 < length text.now }
     requires few { number + length text.now < 2 ^ 32 }
-    ensures first { lines_of number (pieces text.now) ≡ line number result.0.now ∷ lines_of result.1 (pieces result.2.now) }
+    ensures first { lines_of number (pieces text.now)
+        ≡ line number result.0.now ∷ lines_of result.1 (pieces result.2.now) }
     ensures few { result.1 + length result.2.now ≤ number + length text.now }
 {
     let mut end = 0;

@@ -10,7 +10,7 @@ use Rattle.lc_job.specs.Jobs.{IsJob}
 use Rattle.lc_job.specs.declared.job.Job.{Job}
 use Rattle.lc_record.specs.Reading.{IsTextOf}
 use Rattle.lc_record.specs.Readings.{record_in}
-use Rattle.lc_record.specs.Record.{IsHeader, header_bytes}
+use Rattle.lc_record.specs.Record.{IsHeader, record_header}
 use Rattle.lc_record.specs.declared.head.Header.{Header}
 use Rattle.lc_record.specs.declared.reader.Record.{Record}
 use Rattle.lc_record.proofs.Pieces.{headers_same}
@@ -36,9 +36,9 @@ header_is job h = record { width = h.camera.width; height = h.camera.height; gri
 pub same_is : (name : List ℕ) (job : Job) (kept : Record) → kept.header ≡ header_of job → same_header name job kept ≡ at_once (Ok kept)
 same_is name job kept e =
     ap (λ b. at_once (cond b (Ok kept) (refusal name)))
-    ((bytes_eq-Decides (header_bytes kept.header) (header_bytes (header_of job))).1 (ap header_bytes e))
+    ((bytes_eq-Decides (record_header kept.header) (record_header (header_of job))).1 (ap record_header e))
 
-same_bytes : (h k : Header) → IsHeader h → IsHeader k → header_bytes h ≡ header_bytes k → h ≡ k
+same_bytes : (h k : Header) → IsHeader h → IsHeader k → record_header h ≡ record_header k → h ≡ k
 same_bytes h k v w e = (headers_same h k [] [] v w (ap (λ l. l ++ []) e)).0
 
 differ : (b : Bool) → (b ≡ true → ⊥) → b ≡ false
@@ -55,8 +55,8 @@ pub other_is : (name : List ℕ) (job : Job) (kept : Record) → IsJob job → I
     → same_header name job kept ≡ at_once (refuses (source_code source.Record) (fault_line name 1 other_header))
 other_is name job kept valid is other =
     ap (λ b. at_once (cond b (Ok kept) (refusal name)))
-    (differ (bytes_eq (header_bytes kept.header) (header_bytes (header_of job)))
-    (λ e. other (same_bytes kept.header (header_of job) is.1.header (header_is job valid) ((bytes_eq-Decides (header_bytes kept.header) (header_bytes (header_of job))).0 e))))
+    (differ (bytes_eq (record_header kept.header) (record_header (header_of job)))
+    (λ e. other (same_bytes kept.header (header_of job) is.1.header (header_is job valid) ((bytes_eq-Decides (record_header kept.header) (record_header (header_of job))).0 e))))
 
 whole_lines : (job : Job) (kept : Record) (text : List ℕ) (h : Header) → h ≡ header_of job → IsTextOf h kept.lines text → IsTextOf (header_of job) kept.lines text
 whole_lines job kept text h e is = subst (λ k. IsTextOf k kept.lines text) e is
@@ -88,9 +88,9 @@ record_through job files kept valid e =
     let t = went_through (kept_of job.bounds files) (λ k. same_header job.bounds job k) kept e in
     let u = went_through (text_of record_limit job.bounds files) (λ text. kept_text job.bounds text) t.value t.stepped in
     let told : IsTextOf t.value.header t.value.lines u.value = text_told u.value t.value (wrong_gave job.bounds (record_in u.value) t.value u.went) in
-    let same = same_gave (bytes_eq (header_bytes t.value.header) (header_bytes (header_of job))) job.bounds t.value kept t.went in
+    let same = same_gave (bytes_eq (record_header t.value.header) (record_header (header_of job))) job.bounds t.value kept t.went in
     let header : t.value.header ≡ header_of job =
-    same_bytes t.value.header (header_of job) told.header (header_is job valid) ((bytes_eq-Decides (header_bytes t.value.header) (header_bytes (header_of job))).0 same.0) in
+    same_bytes t.value.header (header_of job) told.header (header_is job valid) ((bytes_eq-Decides (record_header t.value.header) (record_header (header_of job))).0 same.0) in
     record {
       text = u.value;
       read = within_gave record_limit job.bounds (files job.bounds) u.value u.stepped;
@@ -137,4 +137,4 @@ unfolding record_of
 record_status job files r e n = go (refused_through (kept_of job.bounds files) (λ k. same_header job.bounds job k) r e) where
   go : ((kept_of job.bounds files).end ≡ Err r) ⊎ ((k : Record) × ((kept_of job.bounds files).end ≡ Ok k) × ((same_header job.bounds job k).end ≡ Err r)) → ⊥
   go (inl e) = kept_status job.bounds files r e n
-  go (inr t) = same_status (bytes_eq (header_bytes t.0.header) (header_bytes (header_of job))) job.bounds t.0 r t.2 n
+  go (inr t) = same_status (bytes_eq (record_header t.0.header) (record_header (header_of job))) job.bounds t.0 r t.2 n

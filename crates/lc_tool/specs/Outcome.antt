@@ -28,7 +28,7 @@ use Rattle.lc_job.specs.declared.job.Job.{Job}
 use Rattle.lc_job.specs.declared.stop.JobStop.{JobStop}
 use Rattle.lc_job.specs.declared.stop.JobStop.TheVariants as job_stop
 use Rattle.lc_sample.specs.Scenes.{scene_of}
-use Rattle.lc_record.specs.Record.{header_bytes, line_bytes}
+use Rattle.lc_record.specs.Record.{record_header, line_bytes}
 use Rattle.lc_record.specs.Readings.{record_in}
 use Rattle.lc_record.specs.declared.reader.Record.{Record}
 use Rattle.lc_audit.specs.Verdicts.{verdict}
@@ -234,7 +234,7 @@ other_header = 4
 
 -- a record that begins with the header of the job
 abbrev pub same_header : List ℕ → Job → Record → Course Record
-same_header name job kept = at_once (if bytes_eq (header_bytes kept.header) (header_bytes (header_of job))
+same_header name job kept = at_once (if bytes_eq (record_header kept.header) (record_header (header_of job))
     then Ok kept
     else refuses (source_code source.Record) (fault_line name 1 other_header))
 

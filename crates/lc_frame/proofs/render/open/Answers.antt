@@ -27,4 +27,4 @@ returns-clause-broke g c =
 pub returns-in_err-start-clause-broke : goal.returns-in_err-start-clause-broke
 returns-in_err-start-clause-broke g c =
     let p = err_from_is_err_and c.from_residual.result c.from_residual.ensures.1 in
-    rw (p.1, p.2) (opening_broke_first c.args.job.now _ _ c.args.job.now.bounds (record_of.header_bytes (header_of c.args.job.now)) c.as_str.ensures (c.as_slice.ensures ∙ c.requires.picture) refl refl _ _ _ c.in_err-start.ensures.broke)
+    rw (p.1, p.2) (opening_broke_first c.args.job.now _ _ c.args.job.now.bounds (record_of.record_header (header_of c.args.job.now)) c.as_str.ensures (c.as_slice.ensures ∙ c.requires.picture) refl refl _ _ _ c.in_err-start.ensures.broke)

@@ -17,12 +17,12 @@ returns-then-not-has_places c =
 pub spans-requires-clause-along : goal.spans-requires-clause-along
 spans-requires-clause-along c =
     let corner = c.in_ok-area.ensures.range.0 in
-    side_short c.in_ok-area.area.corner c.in_ok-area.area.along corner (corners_within c.in_ok-area.area (sym c.has_places.ensures ∙ c.if-not-has_places.false)).along
+    side_short c.in_ok-area.area.corner c.in_ok-area.area.along corner (corners_within c.in_ok-area.area (sym c.has_places.ensures ∙ c.if-not-has_places.false)).along_end
 
 pub spans-requires-clause-across : goal.spans-requires-clause-across
 spans-requires-clause-across c =
     let corner = c.in_ok-area.ensures.range.0 in
-    side_short c.in_ok-area.area.corner c.in_ok-area.area.across corner (corners_within c.in_ok-area.area (sym c.has_places.ensures ∙ c.if-not-has_places.false)).across
+    side_short c.in_ok-area.area.corner c.in_ok-area.area.across corner (corners_within c.in_ok-area.area (sym c.has_places.ensures ∙ c.if-not-has_places.false)).across_end
 
 pub returns-then-not-spans : goal.returns-then-not-spans
 returns-then-not-spans c =

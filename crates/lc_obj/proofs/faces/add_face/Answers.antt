@@ -3,8 +3,8 @@ use Rattle.std.proofs.lemmas.Result.{err_from_is_err_and}
 use Rattle.lc_obj.proofs.FanLemmas.{wrong_corner, stops_at_corner, too_few_corners, face_passes, no_room_for_face}
 use Rattle.lc_obj.proofs.faces.add_face.Goals as goal
 
-pub returns-then-count-lt3-clause-fault : goal.returns-then-count-lt3-clause-fault
-returns-then-count-lt3-clause-fault c = too_few_corners c.args.given.now c.args.so_far c.args.values.now (omega arith)
+pub returns-then-value_count-lt3-clause-fault : goal.returns-then-value_count-lt3-clause-fault
+returns-then-value_count-lt3-clause-fault c = too_few_corners c.args.given.now c.args.so_far c.args.values.now (omega arith)
 
 pub returns-in_err-test_corners-clause-fault : goal.returns-in_err-test_corners-clause-fault
 returns-in_err-test_corners-clause-fault c =

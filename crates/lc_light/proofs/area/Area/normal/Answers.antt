@@ -9,7 +9,7 @@ pub scaled-requires-clause-v : goal.scaled-requires-clause-v
 scaled-requires-clause-v c =
     let area = c.args.self.now in
     cross_fits c.cross.result
-    (c.cross.ensures.within 100_000_000 100_000_000 (side_short area.corner area.along c.requires.corner c.requires.along) (side_short area.corner area.across c.requires.corner c.requires.across))
+    (c.cross.ensures.within 100_000_000 100_000_000 (side_short area.corner area.along c.requires.corner c.requires.along_end) (side_short area.corner area.across c.requires.corner c.requires.across_end))
 
 pub returns : goal.returns
 unfolding normal

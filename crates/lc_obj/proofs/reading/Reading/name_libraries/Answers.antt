@@ -5,8 +5,8 @@ use Rattle.lc_obj.proofs.LibraryLemmas.{no_library, some_libraries}
 use Rattle.lc_obj.proofs.LineLemmas.{same_stop}
 use Rattle.lc_obj.proofs.reading.Reading.name_libraries.Goals as goal
 
-pub returns-then-count-eq0-clause-fault : goal.returns-then-count-eq0-clause-fault
-returns-then-count-eq0-clause-fault c = no_library c.args.values.now (omega arith)
+pub returns-then-value_count-eq0-clause-fault : goal.returns-then-value_count-eq0-clause-fault
+returns-then-value_count-eq0-clause-fault c = no_library c.args.values.now (omega arith)
 
 pub returns-clause-ok : goal.returns-clause-ok
 returns-clause-ok c =

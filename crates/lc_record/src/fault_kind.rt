@@ -4,7 +4,7 @@ ghost use Rattle.lc_record.specs.Reading.{kind_number};
 
 /// Where a text first differs from the text of every record.
 #[derive(Clone, Copy, Debug, PartialEq, Eq)]
-pub(crate) enum Kind {
+pub(crate) enum FaultKind {
     /// The first line is no header.
     Header = 1,
     /// A line that should stand is no line of a sample.
@@ -13,7 +13,7 @@ pub(crate) enum Kind {
     Count = 3,
 }
 
-impl Kind {
+impl FaultKind {
     pub(crate) fn number(self) -> u8
         ensures { result ≡ kind_number self }
     {

@@ -1,9 +1,9 @@
 -- The numbers of the kinds of fault.
 use Rattle.std.specs.Prelude.{ℕ}
-use Rattle.lc_obj.specs.declared.kind.Kind.{Kind}
-use Rattle.lc_obj.specs.declared.kind.Kind.TheVariants as kind
+use Rattle.lc_obj.specs.declared.fault_kind.FaultKind.{FaultKind}
+use Rattle.lc_obj.specs.declared.fault_kind.FaultKind.TheVariants as kind
 
-abbrev pub kind_number : Kind → ℕ
+abbrev pub kind_number : FaultKind → ℕ
 kind_number kind.Number = 1
 kind_number kind.Words = 2
 kind_number kind.IndexZero = 3

@@ -1,10 +1,10 @@
 // The kinds of fault of a job file.
 ghost use Rattle.std.specs.Prelude.{◌≡◌};
-ghost use Rattle.lc_job.specs.Kinds.{kind_number};
+ghost use Rattle.lc_job.specs.FaultKinds.{kind_number};
 
 /// The test that a line fails, or the whole file. A keyword that is missing has no kind here.
 #[derive(Clone, Copy, Debug, PartialEq, Eq)]
-pub enum Kind {
+pub enum FaultKind {
     /// The keyword is not known.
     Keyword = 1,
     /// The keyword stood before.
@@ -21,7 +21,7 @@ pub enum Kind {
     Utf8 = 8,
 }
 
-impl Kind {
+impl FaultKind {
     pub fn number(self) -> u8
         ensures { result ≡ kind_number self }
     {

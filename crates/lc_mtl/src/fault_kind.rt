@@ -1,10 +1,10 @@
 // The kinds of fault of a line.
 ghost use Rattle.std.specs.Prelude.{◌≡◌};
-ghost use Rattle.lc_mtl.specs.Kinds.{kind_number};
+ghost use Rattle.lc_mtl.specs.FaultKinds.{kind_number};
 
 /// The test that a line fails.
 #[derive(Clone, Copy, Debug, PartialEq, Eq)]
-pub enum Kind {
+pub enum FaultKind {
     /// A field is no number, or a number is missing.
     Number = 1,
     /// A number is below 0.
@@ -19,7 +19,7 @@ pub enum Kind {
     Name = 6,
 }
 
-impl Kind {
+impl FaultKind {
     pub fn number(self) -> u8
         ensures { result ≡ kind_number self }
     {

@@ -1,9 +1,9 @@
 -- The numbers of the kinds of fault.
 use Rattle.std.specs.Prelude.{ℕ}
-use Rattle.lc_light.specs.declared.kind.Kind.{Kind}
-use Rattle.lc_light.specs.declared.kind.Kind.TheVariants as kind
+use Rattle.lc_light.specs.declared.fault_kind.FaultKind.{FaultKind}
+use Rattle.lc_light.specs.declared.fault_kind.FaultKind.TheVariants as kind
 
-abbrev pub kind_number : Kind → ℕ
+abbrev pub kind_number : FaultKind → ℕ
 kind_number kind.Keyword = 1
 kind_number kind.Number = 2
 kind_number kind.FieldCount = 3

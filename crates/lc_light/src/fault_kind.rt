@@ -1,10 +1,10 @@
 // The kinds of fault of a line.
 ghost use Rattle.std.specs.Prelude.{◌≡◌};
-ghost use Rattle.lc_light.specs.Kinds.{kind_number};
+ghost use Rattle.lc_light.specs.FaultKinds.{kind_number};
 
 /// The test that a line fails.
 #[derive(Clone, Copy, Debug, PartialEq, Eq)]
-pub enum Kind {
+pub enum FaultKind {
     /// The keyword is not known.
     Keyword = 1,
     /// A field is no number.
@@ -25,7 +25,7 @@ pub enum Kind {
     TooMany = 9,
 }
 
-impl Kind {
+impl FaultKind {
     pub fn number(self) -> u8
         ensures { result ≡ kind_number self }
     {

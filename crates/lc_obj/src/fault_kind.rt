@@ -1,10 +1,10 @@
 // The kinds of fault of a line.
 ghost use Rattle.std.specs.Prelude.{◌≡◌};
-ghost use Rattle.lc_obj.specs.Kinds.{kind_number};
+ghost use Rattle.lc_obj.specs.FaultKinds.{kind_number};
 
 /// The test that a line fails.
 #[derive(Clone, Copy, Debug, PartialEq, Eq)]
-pub enum Kind {
+pub enum FaultKind {
     /// A field is no number, or a number is out of its range, or a corner has none of the four forms.
     Number = 1,
     /// The line has too few fields.
@@ -25,7 +25,7 @@ pub enum Kind {
     Utf8 = 9,
 }
 
-impl Kind {
+impl FaultKind {
     pub fn number(self) -> u8
         ensures { result ≡ kind_number self }
     {

@@ -58,4 +58,5 @@ row_bytes kind kept row = flat_map (pixel_bytes kind kept row) (range_with_len 0
 -- the binary PPM picture of a record, its rows from the top
 unfoldable pub map_bytes : Kind → Record → List ℕ
 map_bytes kind kept =
-    tone.header_bytes kept.header.width kept.header.height ++ flat_map (row_bytes kind kept) (range_with_len 0 kept.header.height)
+    tone.header_bytes kept.header.width kept.header.height
+    ++ flat_map (row_bytes kind kept) (range_with_len 0 kept.header.height)

@@ -1,8 +1,9 @@
 #!/usr/bin/env bash
-# Runs the built program from a shell, over real files, devices and streams, and compares status, output and note.
-# Give the program's path, or run `rt run` in crates/lightcuts first.
+# Runs the built programs from a shell, over real files, devices and streams, and compares status, output and note.
+# Give the paths of lightcuts and boundmap, or run `rt run` in crates/lightcuts and crates/boundmap first.
 set -u
 program=$(realpath "${1:-$(dirname "$0")/../crates/lightcuts/out/lightcuts}") || exit 2
+maps=$(realpath "${2:-$(dirname "$0")/../crates/boundmap/out/boundmap}") || exit 2
 work=$(mktemp -d)
 trap 'chmod -R u+rwx "$work"; rm -rf "$work"' EXIT
 cd "$work" || exit 2
@@ -208,6 +209,22 @@ case_of 'a scene of no number' 2 '' "$usage" made 10000
 made_full() { made 0 >/dev/full; }
 case_of 'standard output full after a made scene' 9 '' 'report: write fault' made_full
 case_of 'the picture of that scene' 0 '' '' cmp made.ppm once.ppm
+
+# maps of a record
+maps_usage='usage: boundmap RECORD PICTURE bound|size|missed'
+for kind in bound size missed; do
+    case_of "a map: $kind" 0 '' '' "$maps" made.lcb map.ppm $kind
+    case_of "the header of the map: $kind" 0 "$(printf 'P6\n32 24\n255\n')" '' head -c 13 map.ppm
+    case_of "the bytes of the map: $kind" 0 2317 '' stat -c %s map.ppm
+done
+cp made.lcb kept.lcb
+case_of 'a map of no words' 2 '' "$maps_usage" "$maps"
+case_of 'a map over its record' 2 '' "$maps_usage" "$maps" made.lcb made.lcb size
+case_of 'the record after it' 0 '' '' cmp made.lcb kept.lcb
+case_of 'a map of no record' 7 '' 'absent.lcb: absent' "$maps" absent.lcb none.ppm size
+case_of 'a map of no text of a record' 12 '' 'l.txt: line 1: kind 1' "$maps" l.txt none.ppm size
+case_of 'no picture of it' 1 '' '' test -e none.ppm
+case_of 'a map on a full device' 9 '' 'picture: write fault' "$maps" made.lcb /dev/full missed
 
 # a signal in the middle of a picture: both files are first parts of what a whole run leaves
 ended() {

@@ -1,11 +1,13 @@
 -- One line of a light file: its source of light, and the tests that it has to pass.
-use Rattle.std.specs.Prelude.{ℕ, ◌+◌, ◌==◌, ◌&&◌, nat_lt, nat_le, List, [], ◌∷◌, ◌++◌, length, Option, Some, None, option_map, Result, Ok, Err, ℤ, pos, negsuc, unsigned_abs, codes, slice_index_or}
+use Rattle.std.specs.Prelude.{ℕ, ◌+◌, ◌==◌, ◌&&◌, nat_lt, nat_le, List, [], ◌∷◌, ◌++◌, length, Option, Some, None, option_map, Result, Ok, Err, ℤ, pos, negsuc, unsigned_abs, codes}
 use Rattle.lc_num.specs.declared.vectors.Vec3.{Vec3}
 use Rattle.lc_num.specs.declared.channels.Power.{Power}
 use Rattle.lc_num.specs.Vectors.{square}
 use Rattle.lc_num.specs.Cosines.{scaled}
 use Rattle.lc_scan.specs.Decimal.{decimal_of, units}
-use Rattle.lc_scan.specs.Whole.{whole_of}
+use Rattle.lc_scan.specs.Whole.{value, whole_of}
+use Rattle.lc_scan.specs.Coordinates.{is_coordinate}
+use Rattle.lc_scan.specs.Fields.{field_at}
 use Rattle.lc_scan.specs.Keywords.{look_up}
 use Rattle.lc_scan.specs.LineTests.{first_kind, unless}
 use Rattle.lc_scan.specs.declared.fault.NumFault.{NumFault}
@@ -33,16 +35,11 @@ keyword_of word = look_up keywords word
 
 -- the k-th value as a number
 abbrev pub number : ℕ → List (List ℕ) → Result ℤ NumFault
-number k values = decimal_of (slice_index_or values k [])
+number k values = decimal_of (field_at k values)
 
 -- the k-th value as a whole number
 abbrev pub whole_number : ℕ → List (List ℕ) → Result ℕ NumFault
-whole_number k values = whole_of (slice_index_or values k [])
-
--- the value of a whole number
-abbrev pub value : Result ℕ NumFault → ℕ
-value (Ok n) = n
-value (Err fault) = 0
+whole_number k values = whole_of (field_at k values)
 
 -- three values from the k-th as a place or a direction
 abbrev pub vector_at : ℕ → List (List ℕ) → Vec3
@@ -90,7 +87,7 @@ number_test (Ok z) = None
 -- a coordinate is a number from -5000 to 5000
 abbrev pub coordinate_test : Result ℤ NumFault → Option FaultKind
 coordinate_test (Err fault) = Some kind.Number
-coordinate_test (Ok z) = unless (nat_le (unsigned_abs z) 50000000) kind.Range
+coordinate_test (Ok z) = unless (is_coordinate z) kind.Range
 
 -- an intensity is a number from 0 to 10000
 abbrev pub intensity_test : Result ℤ NumFault → Option FaultKind

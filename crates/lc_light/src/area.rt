@@ -4,15 +4,13 @@ ghost use Rattle.std.specs.List.{range_with_len};
 ghost use Rattle.lc_num.specs.Vectors.{Within};
 ghost use Rattle.lc_light.specs.declared.area.Area.{Area};
 ghost use Rattle.lc_light.specs.declared.lights.Oriented.{Oriented};
-ghost use Rattle.lc_light.specs.Areas.{IsArea, coordinate_by, has_places, is_place, moved, normal, numbered, part, place_by, power_share, sample, samples_from, share, spans};
+ghost use Rattle.lc_light.specs.Areas.{IsArea, coordinate_by, has_places, moved, normal, numbered, part, place_by, power_share, sample, samples_from, share, spans};
 ghost use Rattle.lc_words.specs.Words.{after, word_of};
 
 use crate::lights::Oriented;
 use lc_num::{List, Memory, Power, Vec3, cross, scaled, square};
+use lc_scan::is_place;
 use lc_words::Stream;
-
-// 5000, in units of 1/10000.
-pub(crate) const MOST_COORDINATE: u64 = 50_000_000;
 
 /// A light that shines from the parallelogram of two sides at a corner, until it is taken apart into samples. It shines
 /// to the side of `along x across`.
@@ -43,14 +41,6 @@ fn moved(place: Vec3, by: Vec3) -> Vec3
         y: shifted(place.y, by.y),
         z: shifted(place.z, by.z),
     }
-}
-
-fn is_place(v: Vec3) -> bool
-    ensures { result ≡ is_place v }
-{
-    v.x.unsigned_abs() <= MOST_COORDINATE
-        && v.y.unsigned_abs() <= MOST_COORDINATE
-        && v.z.unsigned_abs() <= MOST_COORDINATE
 }
 
 /// `side * w / 65536`, rounded down.

@@ -100,10 +100,7 @@ pub fn source_in(line: &[u8], so_far: usize) -> Result<Source, FaultKind>
     ensures room { IfOk result (λ source. so_far + count source ≤ 65536) }
 {
     let mut values = Fields::new(line);
-    let Some(word) = values.next_field() else {
-        return Err(FaultKind::Keyword);
-    };
-    let Some(keyword) = Keyword::of(word) else {
+    let Some(keyword) = Keyword::of(values.take_field()) else {
         return Err(FaultKind::Keyword);
     };
     if count(line) != 1 + keyword.value_count() {

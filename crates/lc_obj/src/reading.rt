@@ -2,9 +2,9 @@
 ghost use Rattle.std.specs.Prelude.{◌≡◌, ◌+◌, ◌<◌, ◌^◌, [], ◌∷◌, ◌++◌, length, map, Some, None, IfErr, OnOk, if◌then◌else◌};
 ghost use Rattle.std.specs.Str.{bytes_eq};
 ghost use Rattle.indexmap.specs.IndexSet.{insert_all, insert_key};
-ghost use Rattle.lc_scan.specs.Fields.{fields};
+ghost use Rattle.lc_scan.specs.Fields.{fields, values_in};
 ghost use Rattle.lc_scan.specs.LineTests.{first_kind};
-ghost use Rattle.lc_obj.specs.ObjLine.{key, kind_of, library_tests, line_tests, name_test, use_tests, values};
+ghost use Rattle.lc_obj.specs.ObjLine.{key, kind_of, library_tests, line_tests, name_test, use_tests};
 ghost use Rattle.lc_obj.specs.Readings.{Adds, IsLineStop, IsReading};
 ghost use Rattle.lc_obj.specs.declared.keyword.Keyword.TheVariants.{Library, Use};
 
@@ -190,14 +190,12 @@ impl<'a> Reading<'a> {
         requires reading { IsReading self.old }
         requires few { length self.old.used < 2 ^ 30 }
         requires some { 0 < length (fields line.now) }
-        ensures ok { OnOk result ((kind_of self.old.tables self.old.triangles line.now ≡ None) × Adds (key line.now) line.now (values line.now) self.old self.new) }
+        ensures ok { OnOk result ((kind_of self.old.tables self.old.triangles line.now ≡ None) × Adds (key line.now) line.now (values_in line.now) self.old self.new) }
         ensures valid { OnOk result (IsReading self.new) }
         ensures fault { IfErr result (λ stop. IsLineStop stop (kind_of self.old.tables self.old.triangles line.now)) }
     {
         let mut values = Fields::new(line);
-        let Some(word) = values.next_field() else {
-            return Ok(());
-        };
-        self.take_values(alloc, Keyword::of(word), line, &mut values, count(line) - 1)
+        let key = Keyword::of(values.take_field());
+        self.take_values(alloc, key, line, &mut values, count(line) - 1)
     }
 }

@@ -1,5 +1,5 @@
 -- One line of a job file: what it says, and the tests that it has to pass.
-use Rattle.std.specs.Prelude.{ℕ, Bool, false, not, ◌==◌, ◌&&◌, nat_le, nat_lt, List, [], ◌∷◌, length, Option, Some, None, option_map, unwrap_or, Result, Ok, Err, is_ok, ℤ, pos, negsuc, unsigned_abs}
+use Rattle.std.specs.Prelude.{ℕ, Bool, false, not, ◌==◌, ◌&&◌, nat_le, nat_lt, List, [], ◌∷◌, length, Option, Some, None, option_map, unwrap_or, is_ok, ℤ, pos, negsuc, unsigned_abs}
 use Rattle.std.specs.List.{list_all}
 use Rattle.lc_num.specs.Rules.{rule_of}
 use Rattle.lc_num.specs.declared.rules.Rule.{Rule}
@@ -11,7 +11,6 @@ use Rattle.lc_scan.specs.Decimal.{decimal_of, units}
 use Rattle.lc_scan.specs.LineTests.{first_kind, unless}
 use Rattle.lc_scan.specs.Names.{is_utf8}
 use Rattle.lc_scan.specs.Whole.{value, whole_of}
-use Rattle.lc_scan.specs.declared.fault.NumFault.{NumFault}
 use Rattle.lc_job.specs.Keys.{key_of}
 use Rattle.lc_job.specs.declared.entry.Entry.{Entry}
 use Rattle.lc_job.specs.declared.entry.Entry.TheVariants as entry
@@ -93,13 +92,16 @@ vector_tests values = unless (are_decimals 3 values) kind.Form ∷ unless (is_pl
 
 abbrev pub size_tests : List (List ℕ) → List (Option FaultKind)
 size_tests values =
-    unless (are_wholes 2 values) kind.Form ∷ unless (is_between 1 4096 (whole_at 0 values) && is_between 1 4096 (whole_at 1 values)) kind.Range ∷ []
+    unless (are_wholes 2 values) kind.Form
+    ∷ unless (is_between 1 4096 (whole_at 0 values) && is_between 1 4096 (whole_at 1 values)) kind.Range ∷ []
 
 abbrev pub amount_tests : ℕ → List (List ℕ) → List (Option FaultKind)
-amount_tests most values = unless (are_decimals 1 values) kind.Form ∷ unless (is_amount most (decimal_at 0 values)) kind.Range ∷ []
+amount_tests most values =
+    unless (are_decimals 1 values) kind.Form ∷ unless (is_amount most (decimal_at 0 values)) kind.Range ∷ []
 
 abbrev pub whole_number_tests : ℕ → ℕ → List (List ℕ) → List (Option FaultKind)
-whole_number_tests least most values = unless (are_wholes 1 values) kind.Form ∷ unless (is_between least most (whole_at 0 values)) kind.Range ∷ []
+whole_number_tests least most values =
+    unless (are_wholes 1 values) kind.Form ∷ unless (is_between least most (whole_at 0 values)) kind.Range ∷ []
 
 -- the most samples on a side of a pixel
 abbrev pub most_grid : ℕ

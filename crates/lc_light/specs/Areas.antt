@@ -1,5 +1,5 @@
 -- Area lights, and the samples that they become.
-use Rattle.std.specs.Prelude.{ℕ, ◌+◌, ◌/◌, ◌%◌, ◌≤◌, Bool, ◌&&◌, nat_lt, List, map, if◌then◌else◌, ℤ, pos, ◌+ℤ◌, ◌*ℤ◌}
+use Rattle.std.specs.Prelude.{◌≡◌, ℕ, ◌+◌, ◌/◌, ◌%◌, ◌≤◌, Bool, ◌&&◌, nat_lt, List, map, sum_by, if◌then◌else◌, ℤ, pos, ◌+ℤ◌, ◌*ℤ◌}
 use Rattle.std.specs.Int.{int_div_euclid}
 use Rattle.std.specs.List.{enumerate_from, range_with_len}
 use Rattle.lc_num.specs.declared.vectors.Vec3.{Vec3}
@@ -77,3 +77,9 @@ sample word s = record { place = place_by word s.0; normal = normal s.0; power =
 -- the oriented lights of samples, each by the word of its place in the list; the first has the place n
 unfoldable pub samples_from : (ℕ → ℕ) → ℕ → List (Area × ℕ) → List Oriented
 samples_from word n list = map (λ p. sample (word p.0) p.1) (enumerate_from n list)
+
+-- in a channel the samples of an area light have together what it has, whatever words give them their places
+abbrev pub AddsUp : (Power → ℕ) → Type 0
+AddsUp channel =
+    (word : ℕ → ℕ) (at : ℕ) (area : Area) → 1 ≤ area.count
+    → sum_by (λ (light : Oriented). channel light.power) (samples_from word at (numbered area)) ≡ channel area.power

@@ -43,7 +43,11 @@ whole_number k values = whole_of (field_at k values)
 
 -- three values from the k-th as a place or a direction
 abbrev pub vector_at : ℕ → List (List ℕ) → Vec3
-vector_at k values = record { x = units (number k values); y = units (number (k + 1) values); z = units (number (k + 2) values) }
+vector_at k values = record {
+  x = units (number k values);
+  y = units (number (k + 1) values);
+  z = units (number (k + 2) values);
+}
 
 -- three values from the k-th as intensities
 abbrev pub power_at : ℕ → List (List ℕ) → Power
@@ -101,13 +105,18 @@ samples_test (Err fault) = Some kind.Number
 samples_test (Ok n) = unless (nat_lt 0 n && nat_le n 4096) kind.SampleCount
 
 abbrev pub vector_tests : ℕ → List (List ℕ) → List (Option FaultKind)
-vector_tests k values = coordinate_test (number k values) ∷ coordinate_test (number (k + 1) values) ∷ coordinate_test (number (k + 2) values) ∷ []
+vector_tests k values =
+    coordinate_test (number k values) ∷ coordinate_test (number (k + 1) values)
+    ∷ coordinate_test (number (k + 2) values) ∷ []
 
 abbrev pub side_tests : ℕ → List (List ℕ) → List (Option FaultKind)
-side_tests k values = number_test (number k values) ∷ number_test (number (k + 1) values) ∷ number_test (number (k + 2) values) ∷ []
+side_tests k values =
+    number_test (number k values) ∷ number_test (number (k + 1) values) ∷ number_test (number (k + 2) values) ∷ []
 
 abbrev pub power_tests : ℕ → List (List ℕ) → List (Option FaultKind)
-power_tests k values = intensity_test (number k values) ∷ intensity_test (number (k + 1) values) ∷ intensity_test (number (k + 2) values) ∷ []
+power_tests k values =
+    intensity_test (number k values) ∷ intensity_test (number (k + 1) values)
+    ∷ intensity_test (number (k + 2) values) ∷ []
 
 -- a direction is not zero
 abbrev pub direction_test : Vec3 → Option FaultKind
@@ -116,7 +125,9 @@ direction_test v = unless (nat_lt 0 (square v)) kind.NoDirection
 -- the values of an area light from the left
 unfoldable pub area_tests : List (List ℕ) → List (Option FaultKind)
 area_tests values =
-    vector_tests 0 values ++ (side_tests 3 values ++ (side_tests 6 values ++ (power_tests 9 values ++ samples_test (whole_number 12 values) ∷ [])))
+    vector_tests 0 values
+    ++ (side_tests 3 values
+    ++ (side_tests 6 values ++ (power_tests 9 values ++ samples_test (whole_number 12 values) ∷ [])))
 
 -- an area light has its corners in range and spans an area
 abbrev pub shape_tests : Area → List (Option FaultKind)
@@ -125,7 +136,8 @@ shape_tests a = unless (has_places a) kind.Range ∷ unless (spans a) kind.NoAre
 -- the tests of the values of each keyword, in their order
 unfoldable pub value_tests : Keyword → List (List ℕ) → List (Option FaultKind)
 value_tests keyword.Point values = vector_tests 0 values ++ power_tests 3 values
-value_tests keyword.Sun values = vector_tests 0 values ++ (power_tests 3 values ++ direction_test (vector_at 0 values) ∷ [])
+value_tests keyword.Sun values =
+    vector_tests 0 values ++ (power_tests 3 values ++ direction_test (vector_at 0 values) ∷ [])
 value_tests keyword.Area values = area_tests values ++ shape_tests (area values)
 
 abbrev pub value_count : Keyword → ℕ
@@ -140,7 +152,8 @@ room_test so_far s = unless (nat_le (so_far + count s) 65536) kind.TooMany
 -- the tests of a line with a known keyword, in their order
 abbrev pub tests : ℕ → Keyword → List (List ℕ) → List (Option FaultKind)
 tests so_far key values =
-    unless (length values == value_count key) kind.FieldCount ∷ (value_tests key values ++ room_test so_far (source_by key values) ∷ [])
+    unless (length values == value_count key) kind.FieldCount
+    ∷ (value_tests key values ++ room_test so_far (source_by key values) ∷ [])
 
 abbrev pub kind_by : Option Keyword → ℕ → List (List ℕ) → Option FaultKind
 kind_by None so_far values = Some kind.Keyword

@@ -2,9 +2,7 @@
 ghost use Rattle.std.specs.Prelude.{◌≡◌, ◌++◌, ◌<◌, ◌≤◌, ◌^◌, ◌+ℤ◌, ℕ, sum_by, OnOk, unsigned_abs};
 ghost use Rattle.std.specs.List.{range_with_len};
 ghost use Rattle.lc_num.specs.Vectors.{Within};
-ghost use Rattle.lc_light.specs.declared.area.Area.{Area};
-ghost use Rattle.lc_light.specs.declared.lights.Oriented.{Oriented};
-ghost use Rattle.lc_light.specs.Areas.{IsArea, coordinate_by, has_places, moved, normal, numbered, part, place_by, power_share, sample, samples_from, share, spans};
+ghost use Rattle.lc_light.specs.Areas.{AddsUp, IsArea, coordinate_by, has_places, moved, normal, numbered, part, place_by, power_share, sample, samples_from, share, spans};
 ghost use Rattle.lc_words.specs.Words.{after, word_of};
 
 use crate::lights::Oriented;
@@ -139,7 +137,8 @@ impl Area {
         words: &mut Stream,
     ) -> Result<(), Memory>
         requires { IsArea self.now }
-        ensures lights { OnOk result (oriented.new ≡ oriented.old ++ samples_from (word_of words.old) 0 (numbered self.now)) }
+        ensures lights { OnOk result (oriented.new
+            ≡ oriented.old ++ samples_from (word_of words.old) 0 (numbered self.now)) }
         ensures words { OnOk result (words.new ≡ after words.old self.now.count) }
     {
         let normal = self.normal();
@@ -160,7 +159,7 @@ impl Area {
 /// whatever words give them their places.
 pub fn area_powers_add_up()
     ensures shares { (intensity n : ℕ) → 1 ≤ n → sum_by (λ k. share intensity n k) (range_with_len 0 n) ≡ intensity }
-    ensures red { (word : ℕ → ℕ) (at : ℕ) (area : Area) → 1 ≤ area.count → sum_by (λ (light : Oriented). light.power.r) (samples_from word at (numbered area)) ≡ area.power.r }
-    ensures green { (word : ℕ → ℕ) (at : ℕ) (area : Area) → 1 ≤ area.count → sum_by (λ (light : Oriented). light.power.g) (samples_from word at (numbered area)) ≡ area.power.g }
-    ensures blue { (word : ℕ → ℕ) (at : ℕ) (area : Area) → 1 ≤ area.count → sum_by (λ (light : Oriented). light.power.b) (samples_from word at (numbered area)) ≡ area.power.b }
+    ensures red { AddsUp (λ power. power.r) }
+    ensures green { AddsUp (λ power. power.g) }
+    ensures blue { AddsUp (λ power. power.b) }
 {}

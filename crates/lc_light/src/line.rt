@@ -46,7 +46,8 @@ fn sun(values: &mut Fields) -> Result<Sun, FaultKind>
 fn read_area(values: &mut Fields) -> Result<Area, FaultKind>
     requires { 13 ≤ length values.old }
     ensures value { IsAnswer (first_kind (area_tests values.old)) (area values.old) result }
-    ensures range { IfOk result (λ made. Within 50_000_000 made.corner × Within (10 ^ 14) made.along × Within (10 ^ 14) made.across) }
+    ensures range { IfOk result (λ made.
+        Within 50_000_000 made.corner × Within (10 ^ 14) made.along × Within (10 ^ 14) made.across) }
 {
     let corner = vector(values)?;
     let along = side(values)?;

@@ -51,7 +51,8 @@ fn coordinate(values: &mut Fields) -> Result<i64, FaultKind>
 fn intensity(values: &mut Fields) -> Result<u64, FaultKind>
     requires { 0 < length values.old }
     ensures rest { values.new ≡ drop 1 values.old }
-    ensures value { IsAnswer (intensity_test (number 0 values.old)) (unsigned_abs (units (number 0 values.old))) result }
+    ensures value { IsAnswer (intensity_test (number 0 values.old))
+        (unsigned_abs (units (number 0 values.old))) result }
 {
     match decimal(values.take_field()) {
         Err(_) => Err(FaultKind::Number),

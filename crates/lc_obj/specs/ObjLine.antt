@@ -141,7 +141,8 @@ abbrev pub room_test : ℕ → ℕ → FaultKind → Option FaultKind
 room_test so_far more kind = unless (nat_le (so_far + more) 1000000) kind
 
 abbrev pub coordinate_tests : List (List ℕ) → List (Option FaultKind)
-coordinate_tests vs = coordinate_test (field_at 0 vs) ∷ coordinate_test (field_at 1 vs) ∷ coordinate_test (field_at 2 vs) ∷ []
+coordinate_tests vs =
+    coordinate_test (field_at 0 vs) ∷ coordinate_test (field_at 1 vs) ∷ coordinate_test (field_at 2 vs) ∷ []
 
 unfoldable pub vector_tests : ℕ → List (List ℕ) → List (Option FaultKind)
 vector_tests so_far vs = count_test 3 kind.Words vs ∷ (coordinate_tests vs ++ room_test so_far 1 kind.Vertices ∷ [])

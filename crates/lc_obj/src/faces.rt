@@ -69,7 +69,8 @@ fn add(faces: &mut List<Face>, face: Face) -> Result<(), Memory>
 fn corner(values: &mut Fields, given: &Tables) -> Result<Corner, FaultKind>
     requires { 0 < length values.old }
     ensures rest { values.new ≡ drop 1 values.old }
-    ensures value { IsAnswer (first_kind (corner_tests given.now (field_at 0 values.old))) (corner_of given.now (field_at 0 values.old)) result }
+    ensures value { IsAnswer (first_kind (corner_tests given.now (field_at 0 values.old)))
+        (corner_of given.now (field_at 0 values.old)) result }
 {
     corner_in(values.take_field(), given)
 }

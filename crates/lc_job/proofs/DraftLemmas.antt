@@ -7,9 +7,9 @@ use Rattle.std.proofs.lemmas.List.{append-nil}
 use Rattle.std.proofs.lemmas.List.Elements.{filter-append}
 use mathlib.Core.Path.{fun_ext}
 use Rattle.lc_scan.specs.Lines.{Line}
-use Rattle.lc_scan.specs.Fields.{rest}
+use Rattle.lc_scan.specs.Fields.{keyword_in, rest, values_in}
 use Rattle.lc_job.specs.Drafts.{has, missing_in, nothing_said, taken}
-use Rattle.lc_job.specs.JobLine.{entry_by, entry_of, keyword_in, values_in}
+use Rattle.lc_job.specs.JobLine.{entry_by, entry_of}
 use Rattle.lc_job.specs.JobFile.{draft_by, draft_of, is_of, line_of, missing, stood}
 use Rattle.lc_job.specs.Keys.{key_of, required, word}
 use Rattle.lc_job.specs.declared.draft.Draft.{Draft}

@@ -6,7 +6,8 @@ use Rattle.std.proofs.lemmas.List.{append-nil}
 use Rattle.std.proofs.lemmas.Slice.Eq.{bytes_eq-Decides}
 use Rattle.lc_num.specs.Vectors.{Within, zero_vector}
 use Rattle.lc_num.specs.declared.vectors.Vec3.{Vec3}
-use Rattle.lc_scan.specs.Fields.{rest}
+use Rattle.lc_scan.specs.Coordinates.{is_place}
+use Rattle.lc_scan.specs.Fields.{keyword_in, rest, values_in}
 use Rattle.lc_scan.specs.Faults.{first_fault}
 use Rattle.lc_scan.specs.Lines.{Line}
 use Rattle.lc_scan.specs.LineTests.{first_kind, unless}
@@ -16,7 +17,7 @@ use Rattle.lc_scan.proofs.ReaderLemmas.{fault_then-none, first_fault-cons}
 use Rattle.lc_view.specs.Camera.{IsCamera}
 use Rattle.lc_job.specs.Drafts.{camera, made}
 use Rattle.lc_job.specs.Jobs.{IsJob}
-use Rattle.lc_job.specs.JobLine.{amount, amount_tests, are_decimals, are_wholes, decimal_at, is_amount, is_between, is_place, keyword_in, kind_by, kind_of, size, size_tests, tests, values_in, vector, vector_tests, whole_at, whole_number_tests}
+use Rattle.lc_job.specs.JobLine.{amount, amount_tests, are_decimals, are_wholes, decimal_at, is_amount, is_between, kind_by, kind_of, size, size_tests, tests, vector, vector_tests, whole_at, whole_number_tests}
 use Rattle.lc_job.specs.JobFile.{draft_by, draft_of, fault_in, fault_of, is_of, job_in, line_of, said, stood}
 use Rattle.lc_job.specs.Keys.{key_of, word}
 use Rattle.lc_job.specs.FaultKinds.{kind_number}

@@ -3,13 +3,13 @@ use Rattle.std.specs.Prelude.{ℕ, Bool, not, List, [], ◌∷◌, filter, find,
 use Rattle.std.specs.List.{last_or, list_any}
 use Rattle.std.specs.Str.{bytes_eq}
 use Rattle.lc_num.specs.Faults.{Fault}
-use Rattle.lc_scan.specs.Fields.{rest}
+use Rattle.lc_scan.specs.Fields.{keyword_in, rest, values_in}
 use Rattle.lc_scan.specs.Lines.{Line}
 use Rattle.lc_scan.specs.LineTests.{first_kind}
 use Rattle.lc_scan.specs.Spoken.{spoken}
 use Rattle.lc_scan.specs.Faults as faults
 use Rattle.lc_job.specs.Drafts.{made}
-use Rattle.lc_job.specs.JobLine.{amount, keyword_in, kind_of, rule, size, values_in, vector, whole_at}
+use Rattle.lc_job.specs.JobLine.{amount, kind_of, rule, size, vector, whole_at}
 use Rattle.lc_job.specs.Jobs.{job_tests}
 use Rattle.lc_job.specs.Keys.{required, word}
 use Rattle.lc_job.specs.FaultKinds.{kind_number}

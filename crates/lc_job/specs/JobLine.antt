@@ -1,16 +1,16 @@
 -- One line of a job file: what it says, and the tests that it has to pass.
-use Rattle.std.specs.Prelude.{ℕ, Bool, false, not, ◌==◌, ◌&&◌, nat_le, nat_lt, List, [], ◌∷◌, drop, length, Option, Some, None, option_map, unwrap_or, Result, Ok, Err, is_ok, ℤ, pos, negsuc, unsigned_abs, slice_index_or}
+use Rattle.std.specs.Prelude.{ℕ, Bool, false, not, ◌==◌, ◌&&◌, nat_le, nat_lt, List, [], ◌∷◌, length, Option, Some, None, option_map, unwrap_or, is_ok, ℤ, pos, negsuc, unsigned_abs}
 use Rattle.std.specs.List.{list_all}
 use Rattle.lc_num.specs.Rules.{rule_of}
 use Rattle.lc_num.specs.declared.rules.Rule.{Rule}
 use Rattle.lc_num.specs.declared.rules.Rule.TheVariants as rules
 use Rattle.lc_num.specs.declared.vectors.Vec3.{Vec3}
-use Rattle.lc_scan.specs.Fields.{fields, rest}
+use Rattle.lc_scan.specs.Fields.{field_at, keyword_in, rest, values_in}
+use Rattle.lc_scan.specs.Coordinates.{is_place}
 use Rattle.lc_scan.specs.Decimal.{decimal_of, units}
 use Rattle.lc_scan.specs.LineTests.{first_kind, unless}
 use Rattle.lc_scan.specs.Names.{is_utf8}
-use Rattle.lc_scan.specs.Whole.{whole_of}
-use Rattle.lc_scan.specs.declared.fault.NumFault.{NumFault}
+use Rattle.lc_scan.specs.Whole.{value, whole_of}
 use Rattle.lc_job.specs.Keys.{key_of}
 use Rattle.lc_job.specs.declared.entry.Entry.{Entry}
 use Rattle.lc_job.specs.declared.entry.Entry.TheVariants as entry
@@ -20,25 +20,15 @@ use Rattle.lc_job.specs.declared.key.Key.TheVariants as key
 use Rattle.lc_job.specs.declared.fault_kind.FaultKind.{FaultKind}
 use Rattle.lc_job.specs.declared.fault_kind.FaultKind.TheVariants as kind
 
--- ---- what a line says: its keyword is the first field, its values are the others, and a name is its rest
-
-abbrev pub keyword_in : List ℕ → List ℕ
-keyword_in line = slice_index_or (fields line) 0 []
-
-abbrev pub values_in : List ℕ → List (List ℕ)
-values_in line = drop 1 (fields line)
+-- ---- what a line says by its keyword and its values; a name is its rest
 
 -- the k-th value as a decimal, in units
 abbrev pub decimal_at : ℕ → List (List ℕ) → ℤ
-decimal_at k values = units (decimal_of (slice_index_or values k []))
-
-abbrev pub whole_by : Result ℕ NumFault → ℕ
-whole_by (Ok n) = n
-whole_by (Err fault) = 0
+decimal_at k values = units (decimal_of (field_at k values))
 
 -- the k-th value as a whole number
 abbrev pub whole_at : ℕ → List (List ℕ) → ℕ
-whole_at k values = whole_by (whole_of (slice_index_or values k []))
+whole_at k values = value (whole_of (field_at k values))
 
 abbrev pub vector : List (List ℕ) → Vec3
 vector values = record { x = decimal_at 0 values; y = decimal_at 1 values; z = decimal_at 2 values }
@@ -89,10 +79,6 @@ are_wholes count values = length values == count && list_all (λ value. is_ok (w
 abbrev pub is_between : ℕ → ℕ → ℕ → Bool
 is_between least most n = nat_le least n && nat_le n most
 
--- coordinates are from -5000 to 5000
-abbrev pub is_place : Vec3 → Bool
-is_place v = nat_le (unsigned_abs v.x) 50000000 && nat_le (unsigned_abs v.y) 50000000 && nat_le (unsigned_abs v.z) 50000000
-
 -- from one unit to so many
 abbrev pub is_amount : ℕ → ℤ → Bool
 is_amount most (pos n) = is_between 1 most n
@@ -106,13 +92,16 @@ vector_tests values = unless (are_decimals 3 values) kind.Form ∷ unless (is_pl
 
 abbrev pub size_tests : List (List ℕ) → List (Option FaultKind)
 size_tests values =
-    unless (are_wholes 2 values) kind.Form ∷ unless (is_between 1 4096 (whole_at 0 values) && is_between 1 4096 (whole_at 1 values)) kind.Range ∷ []
+    unless (are_wholes 2 values) kind.Form
+    ∷ unless (is_between 1 4096 (whole_at 0 values) && is_between 1 4096 (whole_at 1 values)) kind.Range ∷ []
 
 abbrev pub amount_tests : ℕ → List (List ℕ) → List (Option FaultKind)
-amount_tests most values = unless (are_decimals 1 values) kind.Form ∷ unless (is_amount most (decimal_at 0 values)) kind.Range ∷ []
+amount_tests most values =
+    unless (are_decimals 1 values) kind.Form ∷ unless (is_amount most (decimal_at 0 values)) kind.Range ∷ []
 
 abbrev pub whole_number_tests : ℕ → ℕ → List (List ℕ) → List (Option FaultKind)
-whole_number_tests least most values = unless (are_wholes 1 values) kind.Form ∷ unless (is_between least most (whole_at 0 values)) kind.Range ∷ []
+whole_number_tests least most values =
+    unless (are_wholes 1 values) kind.Form ∷ unless (is_between least most (whole_at 0 values)) kind.Range ∷ []
 
 -- the most samples on a side of a pixel
 abbrev pub most_grid : ℕ

@@ -24,8 +24,8 @@ looks camera = nat_lt 0 (square (cross (difference camera.at camera.eye) camera.
 -- two of the four names are equal
 abbrev pub has_twins : Job → Bool
 has_twins job =
-    bytes_eq job.scene job.lights || bytes_eq job.scene job.picture || bytes_eq job.scene job.bounds || bytes_eq job.lights job.picture
-    || bytes_eq job.lights job.bounds || bytes_eq job.picture job.bounds
+    bytes_eq job.scene job.lights || bytes_eq job.scene job.picture || bytes_eq job.scene job.bounds
+    || bytes_eq job.lights job.picture || bytes_eq job.lights job.bounds || bytes_eq job.picture job.bounds
 
 -- the tests of a job as a whole, in their order
 abbrev pub job_tests : Job → List (Option FaultKind)

@@ -14,5 +14,6 @@ pub use Rattle.lc_scan.specs.Spoken
 pub use Rattle.lc_scan.specs.Faults as FirstFaults
 pub use Rattle.lc_scan.specs.Decimal
 pub use Rattle.lc_scan.specs.Whole
+pub use Rattle.lc_scan.specs.Coordinates
 pub use Rattle.lc_scan.specs.Names
 pub use Rattle.lc_view.specs.Camera

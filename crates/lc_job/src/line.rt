@@ -79,10 +79,7 @@ pub fn entry_in(alloc: Global, line: &[u8], before: &Draft) -> Result<Entry, Lin
         (λ stop. IsLineStop stop (kind_of (λ k. has k before.now) line.now)) }
 {
     let mut values = Fields::new(line);
-    let Some(word) = values.next_field() else {
-        return Err(LineStop::Fault(FaultKind::Keyword));
-    };
-    let Some(key) = Key::of(word) else {
+    let Some(key) = Key::of(values.take_field()) else {
         return Err(LineStop::Fault(FaultKind::Keyword));
     };
     if before.has(key) {

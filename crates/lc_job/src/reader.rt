@@ -74,8 +74,8 @@ fn test_whole(job: &Job) -> Result<(), FaultKind>
 /// The job of a file of at most 512 MiB, or why it is refused.
 ///
 /// Each keyword stands at most once, in any order. `scene`, `lights`, `picture`, `bounds`, `eye`, `at` and `size` have
-/// to stand. Without its line the upward direction is `0 1 0`, `view` is 0.5, `grid` 1, `seed` 0, `error` 20, `cut` 1000,
-/// `white` 1 and `rule` 1.
+/// to stand. Without its line the upward direction is `0 1 0`, `view` is 0.5, `grid` 1, `seed` 0, `error` 20, `cut`
+/// 1000, `white` 1 and `rule` 1.
 pub fn read_job(alloc: Global, bytes: &[u8]) -> Result<Job, JobStop>
     requires { length bytes.now ≤ 536_870_912 }
 

@@ -4,14 +4,12 @@ ghost use Rattle.lc_num.specs.Vectors.{Within};
 ghost use Rattle.lc_scan.specs.Decimal.{decimal_of};
 ghost use Rattle.lc_scan.specs.LineTests.{first_kind, IsAnswer};
 ghost use Rattle.lc_scan.specs.Whole.{whole_of};
-ghost use Rattle.lc_job.specs.JobLine.{amount, amount_tests, is_between, is_place, rule, size, size_tests, vector, vector_tests, whole_at, whole_number_tests};
+ghost use Rattle.lc_job.specs.JobLine.{amount, amount_tests, is_between, rule, size, size_tests, vector, vector_tests, whole_at, whole_number_tests};
 
 use crate::entry::Size;
 use crate::fault_kind::FaultKind;
 use lc_num::{Rule, Vec3};
-use lc_scan::{Fields, decimal, whole};
-
-const MOST_COORDINATE: u64 = 50_000_000;
+use lc_scan::{Fields, decimal, is_place, whole};
 
 const MOST_SIDE: u64 = 4_096;
 
@@ -65,14 +63,6 @@ fn whole_in(value: &[u8]) -> Result<u64, FaultKind>
         (λ kind. (is_ok (whole_of value.now) ≡ false) × (kind ≡ FaultKind.Form)) }
 {
     whole(value).map_err(|_| FaultKind::Form)
-}
-
-fn is_place(v: Vec3) -> bool
-    ensures { result ≡ is_place v }
-{
-    v.x.unsigned_abs() <= MOST_COORDINATE
-        && v.y.unsigned_abs() <= MOST_COORDINATE
-        && v.z.unsigned_abs() <= MOST_COORDINATE
 }
 
 fn is_side(n: u64) -> bool

@@ -7,7 +7,8 @@ use Rattle.std.proofs.lemmas.Int.{ints, to_z-of_z}
 use Rattle.std.proofs.lemmas.Bool.{leb-true, and_parts}
 use Rattle.lc_num.specs.Vectors.{Within}
 use Rattle.lc_num.specs.declared.vectors.Vec3.{Vec3}
-use Rattle.lc_light.specs.Areas.{IsArea, moved, is_place, has_places, part, coordinate_by, place_by}
+use Rattle.lc_scan.specs.Coordinates.{is_place}
+use Rattle.lc_light.specs.Areas.{IsArea, moved, has_places, part, coordinate_by, place_by}
 use Rattle.lc_light.specs.declared.area.Area.{Area}
 
 -- ---- corners

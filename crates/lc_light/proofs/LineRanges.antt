@@ -14,7 +14,8 @@ use Rattle.lc_light.specs.declared.keyword.Keyword.TheVariants as keyword
 use Rattle.lc_light.specs.declared.source.Source.{Source}
 use Rattle.lc_scan.specs.Decimal.{units}
 use Rattle.lc_scan.specs.LineTests.{first_kind, unless}
-use Rattle.lc_light.specs.LightLine.{number, whole_number, value, coordinate_test, intensity_test, samples_test, vector_tests, side_tests, power_tests, direction_test, shape_tests, area_tests, value_tests, value_count, room_test, vector_at, power_at, point, sun, area, source_by, source_of, keyword_of, kind_by, kind_of}
+use Rattle.lc_scan.specs.Whole.{value}
+use Rattle.lc_light.specs.LightLine.{number, whole_number, coordinate_test, intensity_test, samples_test, vector_tests, side_tests, power_tests, direction_test, shape_tests, area_tests, value_tests, value_count, room_test, vector_at, power_at, point, sun, area, source_by, source_of, keyword_of, kind_by, kind_of}
 use Rattle.lc_scan.proofs.LineTestLemmas.{both_passed, cons_both_passed, unless_passed}
 use Rattle.lc_light.proofs.AreaLemmas.{corners_within}
 

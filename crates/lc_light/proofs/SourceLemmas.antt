@@ -17,7 +17,8 @@ use Rattle.lc_light.specs.declared.fault_kind.FaultKind.TheVariants as kind
 use Rattle.lc_light.specs.declared.source.Source.{Source}
 use Rattle.lc_light.specs.Sources.{count}
 use Rattle.lc_scan.specs.LineTests.{first_kind, unless}
-use Rattle.lc_light.specs.LightLine.{whole_number, value, vector_tests, side_tests, power_tests, samples_test, direction_test, area_tests, shape_tests, vector_at, power_at, value_tests, value_count, tests, room_test, point, sun, area, source_by, source_of, keyword_of, kind_by, kind_of}
+use Rattle.lc_scan.specs.Whole.{value}
+use Rattle.lc_light.specs.LightLine.{whole_number, vector_tests, side_tests, power_tests, samples_test, direction_test, area_tests, shape_tests, vector_at, power_at, value_tests, value_count, tests, room_test, point, sun, area, source_by, source_of, keyword_of, kind_by, kind_of}
 use Rattle.lc_scan.proofs.LineTestLemmas.{found, passed, first_kind-unless}
 use Rattle.lc_light.proofs.ValueLemmas.{side_tests_after, power_tests_after, vector_after, power_after, whole_after}
 

@@ -1,5 +1,5 @@
 -- Area lights, and the samples that they become.
-use Rattle.std.specs.Prelude.{ℕ, ◌+◌, ◌/◌, ◌%◌, ◌≤◌, Bool, ◌&&◌, nat_lt, nat_le, List, map, if◌then◌else◌, ℤ, pos, ◌+ℤ◌, ◌*ℤ◌, unsigned_abs}
+use Rattle.std.specs.Prelude.{◌≡◌, ℕ, ◌+◌, ◌/◌, ◌%◌, ◌≤◌, Bool, ◌&&◌, nat_lt, List, map, sum_by, if◌then◌else◌, ℤ, pos, ◌+ℤ◌, ◌*ℤ◌}
 use Rattle.std.specs.Int.{int_div_euclid}
 use Rattle.std.specs.List.{enumerate_from, range_with_len}
 use Rattle.lc_num.specs.declared.vectors.Vec3.{Vec3}
@@ -7,6 +7,7 @@ use Rattle.lc_num.specs.declared.channels.Power.{Power}
 use Rattle.lc_num.specs.Vectors.{Within, cross, square}
 use Rattle.lc_num.specs.Channels.{IsPowerWithin}
 use Rattle.lc_num.specs.Cosines.{scaled}
+use Rattle.lc_scan.specs.Coordinates.{is_place}
 use Rattle.lc_light.specs.declared.area.Area.{Area}
 use Rattle.lc_light.specs.declared.lights.Oriented.{Oriented}
 
@@ -15,10 +16,6 @@ use Rattle.lc_light.specs.declared.lights.Oriented.{Oriented}
 -- a place, moved by a vector
 abbrev pub moved : Vec3 → Vec3 → Vec3
 moved place by = record { x = place.x +ℤ by.x; y = place.y +ℤ by.y; z = place.z +ℤ by.z }
-
--- a place has coordinates from -5000 to 5000
-abbrev pub is_place : Vec3 → Bool
-is_place v = nat_le (unsigned_abs v.x) 50000000 && nat_le (unsigned_abs v.y) 50000000 && nat_le (unsigned_abs v.z) 50000000
 
 -- the three corners besides the first are places
 abbrev pub has_places : Area → Bool
@@ -80,3 +77,9 @@ sample word s = record { place = place_by word s.0; normal = normal s.0; power =
 -- the oriented lights of samples, each by the word of its place in the list; the first has the place n
 unfoldable pub samples_from : (ℕ → ℕ) → ℕ → List (Area × ℕ) → List Oriented
 samples_from word n list = map (λ p. sample (word p.0) p.1) (enumerate_from n list)
+
+-- in a channel the samples of an area light have together what it has, whatever words give them their places
+abbrev pub AddsUp : (Power → ℕ) → Type 0
+AddsUp channel =
+    (word : ℕ → ℕ) (at : ℕ) (area : Area) → 1 ≤ area.count
+    → sum_by (λ (light : Oriented). channel light.power) (samples_from word at (numbered area)) ≡ channel area.power

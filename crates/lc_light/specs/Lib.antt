@@ -15,3 +15,5 @@ pub use Rattle.lc_scan.specs.Spoken
 pub use Rattle.lc_scan.specs.Faults as FirstFaults
 pub use Rattle.lc_scan.specs.Decimal
 pub use Rattle.lc_scan.specs.Whole
+pub use Rattle.lc_scan.specs.Coordinates
+pub use Rattle.lc_scan.specs.Keywords

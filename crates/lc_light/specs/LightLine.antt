@@ -1,11 +1,13 @@
 -- One line of a light file: its source of light, and the tests that it has to pass.
-use Rattle.std.specs.Prelude.{ℕ, ◌+◌, ◌==◌, ◌&&◌, nat_lt, nat_le, List, [], ◌∷◌, ◌++◌, length, Option, Some, None, option_map, Result, Ok, Err, ℤ, pos, negsuc, unsigned_abs, codes, slice_index_or}
+use Rattle.std.specs.Prelude.{ℕ, ◌+◌, ◌==◌, ◌&&◌, nat_lt, nat_le, List, [], ◌∷◌, ◌++◌, length, Option, Some, None, option_map, Result, Ok, Err, ℤ, pos, negsuc, unsigned_abs, codes}
 use Rattle.lc_num.specs.declared.vectors.Vec3.{Vec3}
 use Rattle.lc_num.specs.declared.channels.Power.{Power}
 use Rattle.lc_num.specs.Vectors.{square}
 use Rattle.lc_num.specs.Cosines.{scaled}
 use Rattle.lc_scan.specs.Decimal.{decimal_of, units}
-use Rattle.lc_scan.specs.Whole.{whole_of}
+use Rattle.lc_scan.specs.Whole.{value, whole_of}
+use Rattle.lc_scan.specs.Coordinates.{is_coordinate}
+use Rattle.lc_scan.specs.Fields.{field_at}
 use Rattle.lc_scan.specs.Keywords.{look_up}
 use Rattle.lc_scan.specs.LineTests.{first_kind, unless}
 use Rattle.lc_scan.specs.declared.fault.NumFault.{NumFault}
@@ -33,20 +35,19 @@ keyword_of word = look_up keywords word
 
 -- the k-th value as a number
 abbrev pub number : ℕ → List (List ℕ) → Result ℤ NumFault
-number k values = decimal_of (slice_index_or values k [])
+number k values = decimal_of (field_at k values)
 
 -- the k-th value as a whole number
 abbrev pub whole_number : ℕ → List (List ℕ) → Result ℕ NumFault
-whole_number k values = whole_of (slice_index_or values k [])
-
--- the value of a whole number
-abbrev pub value : Result ℕ NumFault → ℕ
-value (Ok n) = n
-value (Err fault) = 0
+whole_number k values = whole_of (field_at k values)
 
 -- three values from the k-th as a place or a direction
 abbrev pub vector_at : ℕ → List (List ℕ) → Vec3
-vector_at k values = record { x = units (number k values); y = units (number (k + 1) values); z = units (number (k + 2) values) }
+vector_at k values = record {
+  x = units (number k values);
+  y = units (number (k + 1) values);
+  z = units (number (k + 2) values);
+}
 
 -- three values from the k-th as intensities
 abbrev pub power_at : ℕ → List (List ℕ) → Power
@@ -90,7 +91,7 @@ number_test (Ok z) = None
 -- a coordinate is a number from -5000 to 5000
 abbrev pub coordinate_test : Result ℤ NumFault → Option FaultKind
 coordinate_test (Err fault) = Some kind.Number
-coordinate_test (Ok z) = unless (nat_le (unsigned_abs z) 50000000) kind.Range
+coordinate_test (Ok z) = unless (is_coordinate z) kind.Range
 
 -- an intensity is a number from 0 to 10000
 abbrev pub intensity_test : Result ℤ NumFault → Option FaultKind
@@ -104,13 +105,18 @@ samples_test (Err fault) = Some kind.Number
 samples_test (Ok n) = unless (nat_lt 0 n && nat_le n 4096) kind.SampleCount
 
 abbrev pub vector_tests : ℕ → List (List ℕ) → List (Option FaultKind)
-vector_tests k values = coordinate_test (number k values) ∷ coordinate_test (number (k + 1) values) ∷ coordinate_test (number (k + 2) values) ∷ []
+vector_tests k values =
+    coordinate_test (number k values) ∷ coordinate_test (number (k + 1) values)
+    ∷ coordinate_test (number (k + 2) values) ∷ []
 
 abbrev pub side_tests : ℕ → List (List ℕ) → List (Option FaultKind)
-side_tests k values = number_test (number k values) ∷ number_test (number (k + 1) values) ∷ number_test (number (k + 2) values) ∷ []
+side_tests k values =
+    number_test (number k values) ∷ number_test (number (k + 1) values) ∷ number_test (number (k + 2) values) ∷ []
 
 abbrev pub power_tests : ℕ → List (List ℕ) → List (Option FaultKind)
-power_tests k values = intensity_test (number k values) ∷ intensity_test (number (k + 1) values) ∷ intensity_test (number (k + 2) values) ∷ []
+power_tests k values =
+    intensity_test (number k values) ∷ intensity_test (number (k + 1) values)
+    ∷ intensity_test (number (k + 2) values) ∷ []
 
 -- a direction is not zero
 abbrev pub direction_test : Vec3 → Option FaultKind
@@ -119,7 +125,9 @@ direction_test v = unless (nat_lt 0 (square v)) kind.NoDirection
 -- the values of an area light from the left
 unfoldable pub area_tests : List (List ℕ) → List (Option FaultKind)
 area_tests values =
-    vector_tests 0 values ++ (side_tests 3 values ++ (side_tests 6 values ++ (power_tests 9 values ++ samples_test (whole_number 12 values) ∷ [])))
+    vector_tests 0 values
+    ++ (side_tests 3 values
+    ++ (side_tests 6 values ++ (power_tests 9 values ++ samples_test (whole_number 12 values) ∷ [])))
 
 -- an area light has its corners in range and spans an area
 abbrev pub shape_tests : Area → List (Option FaultKind)
@@ -128,7 +136,8 @@ shape_tests a = unless (has_places a) kind.Range ∷ unless (spans a) kind.NoAre
 -- the tests of the values of each keyword, in their order
 unfoldable pub value_tests : Keyword → List (List ℕ) → List (Option FaultKind)
 value_tests keyword.Point values = vector_tests 0 values ++ power_tests 3 values
-value_tests keyword.Sun values = vector_tests 0 values ++ (power_tests 3 values ++ direction_test (vector_at 0 values) ∷ [])
+value_tests keyword.Sun values =
+    vector_tests 0 values ++ (power_tests 3 values ++ direction_test (vector_at 0 values) ∷ [])
 value_tests keyword.Area values = area_tests values ++ shape_tests (area values)
 
 abbrev pub value_count : Keyword → ℕ
@@ -143,7 +152,8 @@ room_test so_far s = unless (nat_le (so_far + count s) 65536) kind.TooMany
 -- the tests of a line with a known keyword, in their order
 abbrev pub tests : ℕ → Keyword → List (List ℕ) → List (Option FaultKind)
 tests so_far key values =
-    unless (length values == value_count key) kind.FieldCount ∷ (value_tests key values ++ room_test so_far (source_by key values) ∷ [])
+    unless (length values == value_count key) kind.FieldCount
+    ∷ (value_tests key values ++ room_test so_far (source_by key values) ∷ [])
 
 abbrev pub kind_by : Option Keyword → ℕ → List (List ℕ) → Option FaultKind
 kind_by None so_far values = Some kind.Keyword

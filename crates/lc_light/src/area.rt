@@ -2,17 +2,13 @@
 ghost use Rattle.std.specs.Prelude.{◌≡◌, ◌++◌, ◌<◌, ◌≤◌, ◌^◌, ◌+ℤ◌, ℕ, sum_by, OnOk, unsigned_abs};
 ghost use Rattle.std.specs.List.{range_with_len};
 ghost use Rattle.lc_num.specs.Vectors.{Within};
-ghost use Rattle.lc_light.specs.declared.area.Area.{Area};
-ghost use Rattle.lc_light.specs.declared.lights.Oriented.{Oriented};
-ghost use Rattle.lc_light.specs.Areas.{IsArea, coordinate_by, has_places, is_place, moved, normal, numbered, part, place_by, power_share, sample, samples_from, share, spans};
+ghost use Rattle.lc_light.specs.Areas.{AddsUp, IsArea, coordinate_by, has_places, moved, normal, numbered, part, place_by, power_share, sample, samples_from, share, spans};
 ghost use Rattle.lc_words.specs.Words.{after, word_of};
 
 use crate::lights::Oriented;
 use lc_num::{List, Memory, Power, Vec3, cross, scaled, square};
+use lc_scan::is_place;
 use lc_words::Stream;
-
-// 5000, in units of 1/10000.
-pub(crate) const MOST_COORDINATE: u64 = 50_000_000;
 
 /// A light that shines from the parallelogram of two sides at a corner, until it is taken apart into samples. It shines
 /// to the side of `along x across`.
@@ -43,14 +39,6 @@ fn moved(place: Vec3, by: Vec3) -> Vec3
         y: shifted(place.y, by.y),
         z: shifted(place.z, by.z),
     }
-}
-
-fn is_place(v: Vec3) -> bool
-    ensures { result ≡ is_place v }
-{
-    v.x.unsigned_abs() <= MOST_COORDINATE
-        && v.y.unsigned_abs() <= MOST_COORDINATE
-        && v.z.unsigned_abs() <= MOST_COORDINATE
 }
 
 /// `side * w / 65536`, rounded down.
@@ -149,7 +137,8 @@ impl Area {
         words: &mut Stream,
     ) -> Result<(), Memory>
         requires { IsArea self.now }
-        ensures lights { OnOk result (oriented.new ≡ oriented.old ++ samples_from (word_of words.old) 0 (numbered self.now)) }
+        ensures lights { OnOk result (oriented.new
+            ≡ oriented.old ++ samples_from (word_of words.old) 0 (numbered self.now)) }
         ensures words { OnOk result (words.new ≡ after words.old self.now.count) }
     {
         let normal = self.normal();
@@ -170,7 +159,7 @@ impl Area {
 /// whatever words give them their places.
 pub fn area_powers_add_up()
     ensures shares { (intensity n : ℕ) → 1 ≤ n → sum_by (λ k. share intensity n k) (range_with_len 0 n) ≡ intensity }
-    ensures red { (word : ℕ → ℕ) (at : ℕ) (area : Area) → 1 ≤ area.count → sum_by (λ (light : Oriented). light.power.r) (samples_from word at (numbered area)) ≡ area.power.r }
-    ensures green { (word : ℕ → ℕ) (at : ℕ) (area : Area) → 1 ≤ area.count → sum_by (λ (light : Oriented). light.power.g) (samples_from word at (numbered area)) ≡ area.power.g }
-    ensures blue { (word : ℕ → ℕ) (at : ℕ) (area : Area) → 1 ≤ area.count → sum_by (λ (light : Oriented). light.power.b) (samples_from word at (numbered area)) ≡ area.power.b }
+    ensures red { AddsUp (λ power. power.r) }
+    ensures green { AddsUp (λ power. power.g) }
+    ensures blue { AddsUp (λ power. power.b) }
 {}

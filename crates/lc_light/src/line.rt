@@ -46,7 +46,8 @@ fn sun(values: &mut Fields) -> Result<Sun, FaultKind>
 fn read_area(values: &mut Fields) -> Result<Area, FaultKind>
     requires { 13 ≤ length values.old }
     ensures value { IsAnswer (first_kind (area_tests values.old)) (area values.old) result }
-    ensures range { IfOk result (λ made. Within 50_000_000 made.corner × Within (10 ^ 14) made.along × Within (10 ^ 14) made.across) }
+    ensures range { IfOk result (λ made.
+        Within 50_000_000 made.corner × Within (10 ^ 14) made.along × Within (10 ^ 14) made.across) }
 {
     let corner = vector(values)?;
     let along = side(values)?;
@@ -100,10 +101,7 @@ pub fn source_in(line: &[u8], so_far: usize) -> Result<Source, FaultKind>
     ensures room { IfOk result (λ source. so_far + count source ≤ 65536) }
 {
     let mut values = Fields::new(line);
-    let Some(word) = values.next_field() else {
-        return Err(FaultKind::Keyword);
-    };
-    let Some(keyword) = Keyword::of(word) else {
+    let Some(keyword) = Keyword::of(values.take_field()) else {
         return Err(FaultKind::Keyword);
     };
     if count(line) != 1 + keyword.value_count() {

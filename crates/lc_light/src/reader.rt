@@ -1,10 +1,8 @@
 // A light file read line by line.
-ghost use Rattle.std.specs.Prelude.{◌≡◌, ◌++◌, ◌≤◌, ℕ, List, length, sum_by, None, OnOk, IfOk, IfErr};
+ghost use Rattle.std.specs.Prelude.{◌≡◌, ◌++◌, ◌≤◌, length, None, OnOk, IfOk, IfErr};
 ghost use Rattle.lc_light.specs.Areas.{samples_from};
 ghost use Rattle.lc_light.specs.Lights.{AreLights};
-ghost use Rattle.lc_light.specs.declared.area.Area.{Area};
-ghost use Rattle.lc_light.specs.declared.lights.Oriented.{Oriented};
-ghost use Rattle.lc_light.specs.LightFile.{area_lights, fault_in, lights, IsStop};
+ghost use Rattle.lc_light.specs.LightFile.{HaveAsAreas, fault_in, lights, IsStop};
 ghost use Rattle.lc_light.specs.Sources.{IsSource, points, samples, suns};
 ghost use Rattle.lc_words.specs.Words.{after, word_of};
 
@@ -24,7 +22,8 @@ const AREA_STREAM: u64 = 3;
 fn add(lights: &mut Lights, source: Source, words: &mut Stream) -> Result<(), Memory>
     requires { IsSource source }
     ensures omni { OnOk result (lights.new.omni ≡ lights.old.omni ++ points source) }
-    ensures oriented { OnOk result (lights.new.oriented ≡ lights.old.oriented ++ samples_from (word_of words.old) 0 (samples source)) }
+    ensures oriented { OnOk result (lights.new.oriented
+        ≡ lights.old.oriented ++ samples_from (word_of words.old) 0 (samples source)) }
     ensures sun { OnOk result (lights.new.sun ≡ lights.old.sun ++ suns source) }
     ensures words { OnOk result (words.new ≡ after words.old (length (samples source))) }
 {
@@ -35,8 +34,8 @@ fn add(lights: &mut Lights, source: Source, words: &mut Stream) -> Result<(), Me
     }
 }
 
-/// The lights of a light file of at most 512 MiB, or its first fault. An area light becomes its samples, oriented lights
-/// whose places are picked by the words of the seed, in the order of the file.
+/// The lights of a light file of at most 512 MiB, or its first fault. An area light becomes its samples, oriented
+/// lights whose places are picked by the words of the seed, in the order of the file.
 pub fn read_lights(alloc: Global, bytes: &[u8], seed: u64) -> Result<Lights, LightStop>
     requires { length bytes.now ≤ 536_870_912 }
 
@@ -76,7 +75,7 @@ pub fn read_lights(alloc: Global, bytes: &[u8], seed: u64) -> Result<Lights, Lig
 
 /// In each channel, the oriented lights of a file without a fault have together what its area lights have.
 pub fn oriented_powers_are_those_of_areas()
-    ensures red { (text : List ℕ) (seed : ℕ) → fault_in text ≡ None → sum_by (λ (light : Oriented). light.power.r) (lights text seed).oriented ≡ sum_by (λ (area : Area). area.power.r) (area_lights text) }
-    ensures green { (text : List ℕ) (seed : ℕ) → fault_in text ≡ None → sum_by (λ (light : Oriented). light.power.g) (lights text seed).oriented ≡ sum_by (λ (area : Area). area.power.g) (area_lights text) }
-    ensures blue { (text : List ℕ) (seed : ℕ) → fault_in text ≡ None → sum_by (λ (light : Oriented). light.power.b) (lights text seed).oriented ≡ sum_by (λ (area : Area). area.power.b) (area_lights text) }
+    ensures red { HaveAsAreas (λ power. power.r) }
+    ensures green { HaveAsAreas (λ power. power.g) }
+    ensures blue { HaveAsAreas (λ power. power.b) }
 {}

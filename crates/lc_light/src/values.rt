@@ -2,13 +2,13 @@
 ghost use Rattle.std.specs.Prelude.{◌≡◌, ◌<◌, ◌≤◌, ◌^◌, length, drop, Some, IfOk, OnOk, unsigned_abs};
 ghost use Rattle.lc_num.specs.Vectors.{Within};
 ghost use Rattle.lc_scan.specs.Decimal.{units};
+ghost use Rattle.lc_scan.specs.Whole.{value};
 ghost use Rattle.lc_scan.specs.LineTests.{first_kind, IsAnswer};
-ghost use Rattle.lc_light.specs.LightLine.{number, whole_number, value, vector_at, power_at, number_test, coordinate_test, intensity_test, samples_test, side_tests, vector_tests, power_tests};
+ghost use Rattle.lc_light.specs.LightLine.{number, whole_number, vector_at, power_at, number_test, coordinate_test, intensity_test, samples_test, side_tests, vector_tests, power_tests};
 
-use crate::area::MOST_COORDINATE;
 use crate::fault_kind::FaultKind;
 use lc_num::{Power, Vec3};
-use lc_scan::{Fields, decimal, whole};
+use lc_scan::{Fields, decimal, is_coordinate, whole};
 
 // 10000, in units of 1/10000.
 const MOST_INTENSITY: i64 = 100_000_000;
@@ -22,10 +22,7 @@ fn number(values: &mut Fields) -> Result<i64, FaultKind>
     ensures value { IsAnswer (number_test (number 0 values.old)) (units (number 0 values.old)) result }
     ensures range { IfOk result (λ z. unsigned_abs z ≤ 10 ^ 14) }
 {
-    let Some(field) = values.next_field() else {
-        return Err(FaultKind::Number);
-    };
-    match decimal(field) {
+    match decimal(values.take_field()) {
         Err(_) => Err(FaultKind::Number),
         Ok(z) => Ok(z),
     }
@@ -38,16 +35,13 @@ fn coordinate(values: &mut Fields) -> Result<i64, FaultKind>
     ensures value { IsAnswer (coordinate_test (number 0 values.old)) (units (number 0 values.old)) result }
     ensures range { IfOk result (λ z. unsigned_abs z ≤ 50_000_000) }
 {
-    let Some(field) = values.next_field() else {
-        return Err(FaultKind::Number);
-    };
-    match decimal(field) {
+    match decimal(values.take_field()) {
         Err(_) => Err(FaultKind::Number),
         Ok(z) => {
-            if z.unsigned_abs() > MOST_COORDINATE {
-                Err(FaultKind::Range)
-            } else {
+            if is_coordinate(z) {
                 Ok(z)
+            } else {
+                Err(FaultKind::Range)
             }
         }
     }
@@ -57,12 +51,10 @@ fn coordinate(values: &mut Fields) -> Result<i64, FaultKind>
 fn intensity(values: &mut Fields) -> Result<u64, FaultKind>
     requires { 0 < length values.old }
     ensures rest { values.new ≡ drop 1 values.old }
-    ensures value { IsAnswer (intensity_test (number 0 values.old)) (unsigned_abs (units (number 0 values.old))) result }
+    ensures value { IsAnswer (intensity_test (number 0 values.old))
+        (unsigned_abs (units (number 0 values.old))) result }
 {
-    let Some(field) = values.next_field() else {
-        return Err(FaultKind::Number);
-    };
-    match decimal(field) {
+    match decimal(values.take_field()) {
         Err(_) => Err(FaultKind::Number),
         Ok(z) => {
             if z < 0 {
@@ -81,10 +73,7 @@ pub fn samples(values: &mut Fields) -> Result<u32, FaultKind>
     requires { 0 < length values.old }
     ensures value { IsAnswer (samples_test (whole_number 0 values.old)) (value (whole_number 0 values.old)) result }
 {
-    let Some(field) = values.next_field() else {
-        return Err(FaultKind::Number);
-    };
-    match whole(field) {
+    match whole(values.take_field()) {
         Err(_) => Err(FaultKind::Number),
         Ok(n) => {
             if n == 0 || n > MOST_SAMPLES {

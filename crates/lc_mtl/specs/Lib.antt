@@ -10,3 +10,4 @@ pub use Rattle.lc_scan.specs.Lines
 pub use Rattle.lc_scan.specs.Fields
 pub use Rattle.lc_scan.specs.Spoken
 pub use Rattle.lc_scan.specs.Decimal
+pub use Rattle.lc_scan.specs.Keywords

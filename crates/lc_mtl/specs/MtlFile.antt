@@ -42,7 +42,10 @@ block ls = take_while (λ (l : Line). not (begins l)) ls
 -- the materials of lines without a fault
 unfoldable pub materials_in : List Line → List Material
 materials_in [] = []
-materials_in (l ∷ later) = if begins l then material (rest l.bytes) (settings (block later)) ∷ materials_in later else materials_in later
+materials_in (l ∷ later) =
+    if begins l
+    then material (rest l.bytes) (settings (block later)) ∷ materials_in later
+    else materials_in later
 
 -- the materials of a text after those before
 unfoldable pub materials : List Material → List ℕ → List Material

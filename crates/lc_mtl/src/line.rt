@@ -55,7 +55,9 @@ fn one_share(all: &[u8]) -> Result<Colour, FaultKind>
 }
 
 fn three_shares(red: &[u8], green: &[u8], blue: &[u8]) -> Result<Colour, FaultKind>
-    ensures { IsAnswer (first_kind (form_test red.now ∷ number_test red.now ∷ number_test green.now ∷ number_test blue.now ∷ [])) (record { r = share red.now; g = share green.now; b = share blue.now }) result }
+    ensures { IsAnswer
+        (first_kind (form_test red.now ∷ number_test red.now ∷ number_test green.now ∷ number_test blue.now ∷ []))
+        (record { r = share red.now; g = share green.now; b = share blue.now }) result }
 {
     test_form(red)?;
     let r = share(red)?;
@@ -99,7 +101,8 @@ fn entry_by(
     begun: usize,
 ) -> Result<Entry, FaultKind>
     requires { held + begun ≤ 4096 }
-    ensures { IsAnswer (first_kind (tests held begun keyword name.now values.old)) (entry_by keyword values.old) result }
+    ensures { IsAnswer (first_kind (tests held begun keyword name.now values.old))
+        (entry_by keyword values.old) result }
 {
     match keyword {
         Keyword::Material => {

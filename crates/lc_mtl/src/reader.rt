@@ -47,7 +47,8 @@ pub fn read_mtl(alloc: Global, bytes: &[u8], into: &mut Materials) -> Result<(),
     requires held { AreMaterials into.old.items }
 
     // Materials are added only where no line is faulty, and then they are the text's.
-    ensures ok { OnOk result ((fault_in (length into.old.items) bytes.now ≡ None) × (into.new.items ≡ materials into.old.items bytes.now)) }
+    ensures ok { OnOk result ((fault_in (length into.old.items) bytes.now ≡ None)
+        × (into.new.items ≡ materials into.old.items bytes.now)) }
 
     // A fault is the first one.
     ensures fault { IfErr result (λ stop. IsStop stop (fault_in (length into.old.items) bytes.now)) }

@@ -16,7 +16,8 @@ use Rattle.lc_obj.specs.declared.tables.Tables.{Tables}
 use Rattle.lc_obj.specs.Readings.{IsLineStop}
 use Rattle.lc_obj.specs.Corners.{AreTables, corner_of, corner_tests}
 use Rattle.lc_scan.specs.LineTests.{first_kind}
-use Rattle.lc_obj.specs.ObjLine.{corners_tests, count_test, face, face_tests, faces_in, field, is_kept, room_test}
+use Rattle.lc_scan.specs.Fields.{field_at}
+use Rattle.lc_obj.specs.ObjLine.{corners_tests, count_test, face, face_tests, faces_in, is_kept, room_test}
 use Rattle.lc_scan.proofs.LineTestLemmas.{found, passed, cons_passed, cons_found}
 use Rattle.lc_obj.proofs.CornerLemmas.{corner_valid}
 use Rattle.lc_obj.proofs.ValueLemmas.{enough, too_few, has_room, no_room}
@@ -37,7 +38,7 @@ pub no_corners : (given : Tables) (vs : List (List ℕ)) → vs ≡ [] → first
 unfolding corners_tests
 no_corners given vs e = ap (λ (ws : List (List ℕ)). first_kind (flat_map (corner_tests given) ws)) e
 
-pub first_of : (vs later : List (List ℕ)) → 0 < length vs → later ≡ drop 1 vs → vs ≡ field 0 vs ∷ later
+pub first_of : (vs later : List (List ℕ)) → 0 < length vs → later ≡ drop 1 vs → vs ≡ field_at 0 vs ∷ later
 first_of [] later some e = absurd (omega (arith, some))
 first_of (v ∷ vs) later some e = ap (λ (ws : List (List ℕ)). v ∷ ws) (sym e)
 
@@ -60,13 +61,13 @@ unfolding faces_in
 fan_of_three given name whole left v w e = ap (λ (vs : List (List ℕ)). faces_in given name vs) e
 
 pub start : (given : Tables) (name : ℕ) (whole second left : List (List ℕ)) (before : List Face) (first previous : Corner) → AreTables given → 3 ≤ length whole → second ≡ drop 1 whole → left ≡ drop 1 second
-    → (first_kind (corner_tests given (field 0 whole)) ≡ None) × (corner_of given (field 0 whole) ≡ first) → (first_kind (corner_tests given (field 0 second)) ≡ None) × (corner_of given (field 0 second) ≡ previous)
+    → (first_kind (corner_tests given (field_at 0 whole)) ≡ None) × (corner_of given (field_at 0 whole) ≡ first) → (first_kind (corner_tests given (field_at 0 second)) ≡ None) × (corner_of given (field_at 0 second) ≡ previous)
     → Fanned given name whole before first previous left before
 start given name [] second left before first previous valid some e f a b = absurd (omega (arith, some))
 start given name (v ∷ []) second left before first previous valid some e f a b = absurd (omega (arith, some))
 start given name (v ∷ w ∷ vs) second left before first previous valid some e f a b =
     let same : left ≡ vs = f ∙ ap (drop 1) e in
-    let at : field 0 second ≡ w = ap (field 0) e in
+    let at : field_at 0 second ≡ w = ap (field_at 0) e in
     let tests : first_kind (corner_tests given w) ≡ None = ap (λ (x : List ℕ). first_kind (corner_tests given x)) (sym at) ∙ b.0 in
     let is : corner_of given w ≡ previous = ap (corner_of given) (sym at) ∙ b.1 in
     record {

@@ -16,7 +16,8 @@ use Rattle.lc_scan.specs.Spoken.{is_spoken, spoken, spoken_in}
 use Rattle.lc_scan.proofs.ReaderLemmas as reader
 use Rattle.lc_scan.proofs.ReaderLemmas.{Progress}
 use Rattle.lc_obj.specs.FaultKinds.{kind_number}
-use Rattle.lc_obj.specs.ObjLine.{key, values, places_by, uvs_by, normals_by, faces_by, triangles_by, uses_by, libraries_by, kind_of}
+use Rattle.lc_scan.specs.Fields.{values_in}
+use Rattle.lc_obj.specs.ObjLine.{key, places_by, uvs_by, normals_by, faces_by, triangles_by, uses_by, libraries_by, kind_of}
 use Rattle.lc_obj.specs.ObjFile.{tables, triangles, first_uses, uses, names, libs, number_after, in_force, faces_from, mesh, fault_of, fault_in}
 use Rattle.lc_obj.specs.Readings.{Adds, IsReading}
 use Rattle.lc_obj.specs.declared.keyword.Keyword.{Keyword}
@@ -38,15 +39,15 @@ pub faces_from-append : (before xs ys : List Line) → faces_from before (xs ++ 
 unfolding faces_from
 faces_from-append before [] ys = ap (λ (ls : List Line). faces_from ls ys) (sym (append-nil before))
 faces_from-append before (x ∷ xs) ys =
-    let own = faces_by (tables before) (in_force before) (key x.bytes) (values x.bytes) in
+    let own = faces_by (tables before) (in_force before) (key x.bytes) (values_in x.bytes) in
     ap (λ (fs : List Face). own ++ fs) (faces_from-append (before ++ x ∷ []) xs ys ∙ ap (λ (ls : List Line). faces_from (before ++ x ∷ []) xs ++ faces_from ls ys) (append_assoc before (x ∷ []) xs))
     ∙ sym (append_assoc own (faces_from (before ++ x ∷ []) xs) (faces_from (before ++ x ∷ xs) ys))
 
-one_line : (before : List Line) (l : Line) → faces_from before (l ∷ []) ≡ faces_by (tables before) (in_force before) (key l.bytes) (values l.bytes)
+one_line : (before : List Line) (l : Line) → faces_from before (l ∷ []) ≡ faces_by (tables before) (in_force before) (key l.bytes) (values_in l.bytes)
 unfolding faces_from
-one_line before l = append-nil (faces_by (tables before) (in_force before) (key l.bytes) (values l.bytes))
+one_line before l = append-nil (faces_by (tables before) (in_force before) (key l.bytes) (values_in l.bytes))
 
-pub faces_of_one_more : (ls : List Line) (l : Line) → faces_from [] (ls ++ l ∷ []) ≡ faces_from [] ls ++ faces_by (tables ls) (in_force ls) (key l.bytes) (values l.bytes)
+pub faces_of_one_more : (ls : List Line) (l : Line) → faces_from [] (ls ++ l ∷ []) ≡ faces_from [] ls ++ faces_by (tables ls) (in_force ls) (key l.bytes) (values_in l.bytes)
 faces_of_one_more ls l = faces_from-append [] ls (l ∷ []) ∙ ap (λ (fs : List Face). faces_from [] ls ++ fs) (one_line ls l)
 
 pub uses_of_one_more : (ls : List Line) (l : Line) → names (ls ++ l ∷ []) ≡ insert_all bytes_eq (names ls) (uses_by (key l.bytes) l.bytes)
@@ -54,16 +55,16 @@ unfolding names
 uses_of_one_more ls l =
     ap first_uses (one_line_more (λ (m : Line). uses_by (key m.bytes) m.bytes) ls l) ∙ first_uses_more (uses ls) (uses_by (key l.bytes) l.bytes)
 
-pub libs_of_one_more : (ls : List Line) (l : Line) → libs (ls ++ l ∷ []) ≡ insert_all bytes_eq (libs ls) (libraries_by (key l.bytes) (values l.bytes))
+pub libs_of_one_more : (ls : List Line) (l : Line) → libs (ls ++ l ∷ []) ≡ insert_all bytes_eq (libs ls) (libraries_by (key l.bytes) (values_in l.bytes))
 unfolding libs
 libs_of_one_more ls l =
-    let named : Line → List (List ℕ) = λ m. libraries_by (key m.bytes) (values m.bytes) in
+    let named : Line → List (List ℕ) = λ m. libraries_by (key m.bytes) (values_in m.bytes) in
     ap first_uses (one_line_more named ls l) ∙ first_uses_more (flat_map named ls) (named l)
 
-pub triangles_of_one_more : (ls : List Line) (l : Line) → triangles (ls ++ l ∷ []) ≡ triangles ls + triangles_by (key l.bytes) (values l.bytes)
+pub triangles_of_one_more : (ls : List Line) (l : Line) → triangles (ls ++ l ∷ []) ≡ triangles ls + triangles_by (key l.bytes) (values_in l.bytes)
 unfolding triangles
 triangles_of_one_more ls l =
-    let own : Line → ℕ = λ m. triangles_by (key m.bytes) (values m.bytes) in
+    let own : Line → ℕ = λ m. triangles_by (key m.bytes) (values_in m.bytes) in
     sum_by-append own ls (l ∷ []) ∙ ap (λ n. sum_by own ls + n) (one own)
   where
     one : (own : Line → ℕ) → sum_by own (l ∷ []) ≡ own l
@@ -103,27 +104,27 @@ same_tables : (places places' : List Vec3) (uvs uvs' : List Uv) (normals normals
     → ◌≡◌ {A = Tables} (record { places = places; uvs = uvs; normals = normals }) (record { places = places'; uvs = uvs'; normals = normals' })
 same_tables places places' uvs uvs' normals normals' e f g = cc
 
-tables_of_one_more : (ls : List Line) (l : Line) (t : Tables) → t.places ≡ (tables ls).places ++ places_by (key l.bytes) (values l.bytes) → t.uvs ≡ (tables ls).uvs ++ uvs_by (key l.bytes) (values l.bytes)
-    → t.normals ≡ (tables ls).normals ++ normals_by (key l.bytes) (values l.bytes) → t ≡ tables (ls ++ l ∷ [])
+tables_of_one_more : (ls : List Line) (l : Line) (t : Tables) → t.places ≡ (tables ls).places ++ places_by (key l.bytes) (values_in l.bytes) → t.uvs ≡ (tables ls).uvs ++ uvs_by (key l.bytes) (values_in l.bytes)
+    → t.normals ≡ (tables ls).normals ++ normals_by (key l.bytes) (values_in l.bytes) → t ≡ tables (ls ++ l ∷ [])
 unfolding tables
 tables_of_one_more ls l t p u n =
-    same_tables _ _ _ _ _ _ (p ∙ sym (one_line_more (λ (m : Line). places_by (key m.bytes) (values m.bytes)) ls l))
-    (u ∙ sym (one_line_more (λ (m : Line). uvs_by (key m.bytes) (values m.bytes)) ls l)) (n ∙ sym (one_line_more (λ (m : Line). normals_by (key m.bytes) (values m.bytes)) ls l))
+    same_tables _ _ _ _ _ _ (p ∙ sym (one_line_more (λ (m : Line). places_by (key m.bytes) (values_in m.bytes)) ls l))
+    (u ∙ sym (one_line_more (λ (m : Line). uvs_by (key m.bytes) (values_in m.bytes)) ls l)) (n ∙ sym (one_line_more (λ (m : Line). normals_by (key m.bytes) (values_in m.bytes)) ls l))
 
-pub adds_a_line : (ls : List Line) (l : Line) (old new : Reading) → Adds (key l.bytes) l.bytes (values l.bytes) old new → Holds ls old → Holds (ls ++ l ∷ []) new
+pub adds_a_line : (ls : List Line) (l : Line) (old new : Reading) → Adds (key l.bytes) l.bytes (values_in l.bytes) old new → Holds ls old → Holds (ls ++ l ∷ []) new
 adds_a_line ls l old new a h =
     let used : new.used ≡ names (ls ++ l ∷ []) = a.used ∙ ap (λ (ns : List (List ℕ)). insert_all bytes_eq ns (uses_by (key l.bytes) l.bytes)) h.used_are ∙ sym (uses_of_one_more ls l) in
     record {
-      tables_are = tables_of_one_more ls l new.tables (a.places ∙ ap (λ (t : Tables). t.places ++ places_by (key l.bytes) (values l.bytes)) h.tables_are)
-          (a.uvs ∙ ap (λ (t : Tables). t.uvs ++ uvs_by (key l.bytes) (values l.bytes)) h.tables_are) (a.normals ∙ ap (λ (t : Tables). t.normals ++ normals_by (key l.bytes) (values l.bytes)) h.tables_are);
-      triangles_are = a.triangles ∙ ap (λ n. n + triangles_by (key l.bytes) (values l.bytes)) h.triangles_are ∙ sym (triangles_of_one_more ls l);
-      faces_are = a.faces ∙ ap (λ (fs : List Face). fs ++ faces_by old.tables old.name (key l.bytes) (values l.bytes)) h.faces_are
-          ∙ ap (λ (t : Tables). faces_from [] ls ++ faces_by t old.name (key l.bytes) (values l.bytes)) h.tables_are
-          ∙ ap (λ (n : ℕ). faces_from [] ls ++ faces_by (tables ls) n (key l.bytes) (values l.bytes)) h.name_is ∙ sym (faces_of_one_more ls l);
+      tables_are = tables_of_one_more ls l new.tables (a.places ∙ ap (λ (t : Tables). t.places ++ places_by (key l.bytes) (values_in l.bytes)) h.tables_are)
+          (a.uvs ∙ ap (λ (t : Tables). t.uvs ++ uvs_by (key l.bytes) (values_in l.bytes)) h.tables_are) (a.normals ∙ ap (λ (t : Tables). t.normals ++ normals_by (key l.bytes) (values_in l.bytes)) h.tables_are);
+      triangles_are = a.triangles ∙ ap (λ n. n + triangles_by (key l.bytes) (values_in l.bytes)) h.triangles_are ∙ sym (triangles_of_one_more ls l);
+      faces_are = a.faces ∙ ap (λ (fs : List Face). fs ++ faces_by old.tables old.name (key l.bytes) (values_in l.bytes)) h.faces_are
+          ∙ ap (λ (t : Tables). faces_from [] ls ++ faces_by t old.name (key l.bytes) (values_in l.bytes)) h.tables_are
+          ∙ ap (λ (n : ℕ). faces_from [] ls ++ faces_by (tables ls) n (key l.bytes) (values_in l.bytes)) h.name_is ∙ sym (faces_of_one_more ls l);
       used_are = used;
       name_is = a.name ∙ ap (λ (n : ℕ). number_after n new.used (last_or None (uses_by (key l.bytes) l.bytes))) h.name_is
           ∙ ap (λ (ns : List (List ℕ)). number_after (in_force ls) ns (last_or None (uses_by (key l.bytes) l.bytes))) used ∙ sym (number_of_one_more ls l);
-      named_are = a.named ∙ ap (λ (ns : List (List ℕ)). insert_all bytes_eq ns (libraries_by (key l.bytes) (values l.bytes))) h.named_are ∙ sym (libs_of_one_more ls l);
+      named_are = a.named ∙ ap (λ (ns : List (List ℕ)). insert_all bytes_eq ns (libraries_by (key l.bytes) (values_in l.bytes))) h.named_are ∙ sym (libs_of_one_more ls l);
     }
 
 -- ---- how many names there are
@@ -216,7 +217,7 @@ own_fault seen l r o h e =
     ap (λ (t : Tables). option_map kind_number (kind_of t (triangles seen) l.bytes)) (sym h.tables_are) ∙ ap (λ (n : ℕ). option_map kind_number (kind_of r.tables n l.bytes)) (sym h.triangles_are)
     ∙ ap (λ (k : Option FaultKind). option_map kind_number k) e
 
-pub takes : (text : List ℕ) (left later : List Line) (l : Line) (old new : Reading) → spoken_in left ≡ l ∷ spoken_in later → (kind_of old.tables old.triangles l.bytes ≡ None) × Adds (key l.bytes) l.bytes (values l.bytes) old new → IsReading new → Read text left old → Read text later new
+pub takes : (text : List ℕ) (left later : List Line) (l : Line) (old new : Reading) → spoken_in left ≡ l ∷ spoken_in later → (kind_of old.tables old.triangles l.bytes ≡ None) × Adds (key l.bytes) l.bytes (values_in l.bytes) old new → IsReading new → Read text left old → Read text later new
 takes text left later l old new e a valid h = record {
   seen = h.seen ++ l ∷ [];
   progress = reader.takes fault_of text h.seen (spoken_in left) (spoken_in later) l e (own_fault h.seen l old None h.holds a.0) h.progress;

@@ -13,7 +13,7 @@ use Rattle.lc_num.specs.declared.vectors.Vec3.{Vec3}
 use Rattle.lc_num.specs.Vectors.{Within}
 use Rattle.lc_num.specs.Cosines.{scaled}
 use Rattle.lc_scan.specs.Decimal.{decimal_of, units}
-use Rattle.lc_scan.specs.Fields.{rest}
+use Rattle.lc_scan.specs.Fields.{field_at, rest, values_in}
 use Rattle.lc_scan.specs.declared.fault.NumFault.{NumFault}
 use Rattle.lc_obj.specs.declared.mesh.Uv.{Uv}
 use Rattle.lc_num.proofs.ScaledLemmas.{scaled_within}
@@ -26,7 +26,7 @@ use Rattle.lc_obj.specs.FaultKinds.{kind_number}
 use Rattle.lc_obj.specs.Corners.{AreTables, corner_of, corner_tests}
 use Rattle.lc_obj.specs.Meshes.{AreNormals, IsFace, IsMesh}
 use Rattle.lc_scan.specs.LineTests.{first_kind}
-use Rattle.lc_obj.specs.ObjLine.{corners_tests, coordinate_in, coordinate_test, coordinate_tests, number_tests, count_test, face, face_tests, faces_by, faces_in, fan, field, is_kept, key, kind_of, line_tests, normals_by, places_by, room_test, three_normals, triangles_by, uses_by, uv_tests, uvs_by, values, vector, vector_tests}
+use Rattle.lc_obj.specs.ObjLine.{corners_tests, coordinate_in, coordinate_test, coordinate_tests, number_tests, count_test, face, face_tests, faces_by, faces_in, fan, is_kept, key, kind_of, line_tests, normals_by, places_by, room_test, three_normals, triangles_by, uses_by, uv_tests, uvs_by, vector, vector_tests}
 use Rattle.lc_obj.specs.ObjFile.{fault_in, fault_of, faces_from, in_force, mesh, names, number_after, tables, triangles}
 use Rattle.lc_obj.specs.declared.keyword.Keyword.{Keyword}
 use Rattle.lc_obj.specs.declared.keyword.Keyword.TheVariants as keyword
@@ -88,14 +88,14 @@ vector_fine : (so_far : ℕ) (vs : List (List ℕ)) → first_kind (vector_tests
 unfolding vector_tests vector
 vector_fine so_far vs h =
     let all = both_passed (coordinate_tests vs) _ (cons_both_passed (count_test 3 kind.Words vs) _ h).1 in
-    let x = cons_both_passed (coordinate_test (field 0 vs)) _ all.0 in
-    let y = cons_both_passed (coordinate_test (field 1 vs)) _ x.1 in
-    let z = cons_both_passed (coordinate_test (field 2 vs)) _ y.1 in
+    let x = cons_both_passed (coordinate_test (field_at 0 vs)) _ all.0 in
+    let y = cons_both_passed (coordinate_test (field_at 1 vs)) _ x.1 in
+    let z = cons_both_passed (coordinate_test (field_at 2 vs)) _ y.1 in
     record {
       within = record {
-        x = coordinate_within (decimal_of (field 0 vs)) x.0;
-        y = coordinate_within (decimal_of (field 1 vs)) y.0;
-        z = coordinate_within (decimal_of (field 2 vs)) z.0;
+        x = coordinate_within (decimal_of (field_at 0 vs)) x.0;
+        y = coordinate_within (decimal_of (field_at 1 vs)) y.0;
+        z = coordinate_within (decimal_of (field_at 2 vs)) z.0;
       };
       room = room_left so_far 1 kind.Vertices (cons_both_passed (room_test so_far 1 kind.Vertices) _ all.1).0;
     }
@@ -239,17 +239,17 @@ number_within _ line known before h = h
 
 -- ---- one line
 
-more_places : (ls : List Line) (l : Line) → (tables (ls ++ l ∷ [])).places ≡ (tables ls).places ++ places_by (key l.bytes) (values l.bytes)
+more_places : (ls : List Line) (l : Line) → (tables (ls ++ l ∷ [])).places ≡ (tables ls).places ++ places_by (key l.bytes) (values_in l.bytes)
 unfolding tables
-more_places ls l = one_line_more (λ (m : Line). places_by (key m.bytes) (values m.bytes)) ls l
+more_places ls l = one_line_more (λ (m : Line). places_by (key m.bytes) (values_in m.bytes)) ls l
 
-more_uvs : (ls : List Line) (l : Line) → (tables (ls ++ l ∷ [])).uvs ≡ (tables ls).uvs ++ uvs_by (key l.bytes) (values l.bytes)
+more_uvs : (ls : List Line) (l : Line) → (tables (ls ++ l ∷ [])).uvs ≡ (tables ls).uvs ++ uvs_by (key l.bytes) (values_in l.bytes)
 unfolding tables
-more_uvs ls l = one_line_more (λ (m : Line). uvs_by (key m.bytes) (values m.bytes)) ls l
+more_uvs ls l = one_line_more (λ (m : Line). uvs_by (key m.bytes) (values_in m.bytes)) ls l
 
-more_normals : (ls : List Line) (l : Line) → (tables (ls ++ l ∷ [])).normals ≡ (tables ls).normals ++ normals_by (key l.bytes) (values l.bytes)
+more_normals : (ls : List Line) (l : Line) → (tables (ls ++ l ∷ [])).normals ≡ (tables ls).normals ++ normals_by (key l.bytes) (values_in l.bytes)
 unfolding tables
-more_normals ls l = one_line_more (λ (m : Line). normals_by (key m.bytes) (values m.bytes)) ls l
+more_normals ls l = one_line_more (λ (m : Line). normals_by (key m.bytes) (values_in m.bytes)) ls l
 
 same_face : (known more : List (List ℕ)) → length known ≤ length more → (f : Face) → IsFace known f → IsFace more f
 same_face known more le f h = record { tri = h.tri; normals = h.normals; name = le_trans h.name le }
@@ -262,10 +262,10 @@ number_fine ls l h =
     let e = uses_of_one_more ls l in
     rw (number_of_one_more ls l, e) (number_within (key l.bytes) l.bytes (names ls) (in_force ls) h)
 
-fine_line : (ls : List Line) (l : Line) → first_kind (line_tests (key l.bytes) (tables ls) (triangles ls) l.bytes (values l.bytes)) ≡ None → Fine ls → Fine (ls ++ l ∷ [])
+fine_line : (ls : List Line) (l : Line) → first_kind (line_tests (key l.bytes) (tables ls) (triangles ls) l.bytes (values_in l.bytes)) ≡ None → Fine ls → Fine (ls ++ l ∷ [])
 fine_line ls l e h =
     let k = key l.bytes in
-    let vs = values l.bytes in
+    let vs = values_in l.bytes in
     let t = tables ls in
     let n = triangles ls in
     let grown = names_grow ls l in
@@ -286,7 +286,7 @@ fine_line ls l e h =
 
 -- ---- the text
 
-passes : (ls : List Line) (l : Line) → fault_of ls l ≡ None → first_kind (line_tests (key l.bytes) (tables ls) (triangles ls) l.bytes (values l.bytes)) ≡ None
+passes : (ls : List Line) (l : Line) → fault_of ls l ≡ None → first_kind (line_tests (key l.bytes) (tables ls) (triangles ls) l.bytes (values_in l.bytes)) ≡ None
 unfolding kind_of
 passes ls l h = no_kind kind_number (kind_of (tables ls) (triangles ls) l.bytes) h
 

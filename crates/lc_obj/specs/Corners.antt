@@ -77,7 +77,8 @@ optional_test given (Some i) = index_test given i
 abbrev pub tests_by : Tables → Option Indices → List (Option FaultKind)
 tests_by given None = Some kind.Number ∷ []
 tests_by given (Some i) =
-    index_test (length given.places) i.place ∷ optional_test (length given.uvs) i.uv ∷ optional_test (length given.normals) i.normal ∷ []
+    index_test (length given.places) i.place ∷ optional_test (length given.uvs) i.uv
+    ∷ optional_test (length given.normals) i.normal ∷ []
 
 unfoldable pub corner_tests : Tables → List ℕ → List (Option FaultKind)
 corner_tests given corner = tests_by given (indices_of corner)

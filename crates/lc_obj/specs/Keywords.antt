@@ -15,7 +15,8 @@ free_form =
 abbrev pub keywords : List (List ℕ × Keyword)
 keywords =
     (codes "v", keyword.Place) ∷ (codes "vt", keyword.Uv) ∷ (codes "vn", keyword.Normal) ∷ (codes "f", keyword.Face)
-    ∷ (codes "usemtl", keyword.Use) ∷ (codes "mtllib", keyword.Library) ∷ map (λ word. (word, keyword.FreeForm)) free_form
+    ∷ (codes "usemtl", keyword.Use) ∷ (codes "mtllib", keyword.Library)
+    ∷ map (λ word. (word, keyword.FreeForm)) free_form
 
 unfoldable pub keyword_of : List ℕ → Keyword
 keyword_of word = unwrap_or (look_up keywords word) keyword.Other

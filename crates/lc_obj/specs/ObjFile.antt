@@ -3,11 +3,12 @@ use Rattle.std.specs.Prelude.{◌≡◌, ℕ, ◌+◌, not, List, [], ◌∷◌,
 use Rattle.std.specs.List.{last_or, position_or_len}
 use Rattle.std.specs.Str.{bytes_eq}
 use Rattle.lc_num.specs.Faults.{Fault}
+use Rattle.lc_scan.specs.Fields.{values_in}
 use Rattle.lc_scan.specs.Lines.{Line}
 use Rattle.lc_scan.specs.Spoken.{spoken}
 use Rattle.lc_scan.specs.Faults as faults
 use Rattle.lc_obj.specs.FaultKinds.{kind_number}
-use Rattle.lc_obj.specs.ObjLine.{key, values, places_by, uvs_by, normals_by, faces_by, triangles_by, uses_by, libraries_by, kind_of}
+use Rattle.lc_obj.specs.ObjLine.{key, places_by, uvs_by, normals_by, faces_by, triangles_by, uses_by, libraries_by, kind_of}
 use Rattle.lc_obj.specs.declared.mesh.Face.{Face}
 use Rattle.lc_obj.specs.declared.mesh.Mesh.{Mesh}
 use Rattle.lc_obj.specs.declared.stop.ObjStop.{ObjStop}
@@ -18,14 +19,14 @@ use Rattle.lc_obj.specs.declared.tables.Tables.{Tables}
 
 unfoldable pub tables : List Line → Tables
 tables ls = record {
-  places = flat_map (λ l. places_by (key l.bytes) (values l.bytes)) ls;
-  uvs = flat_map (λ l. uvs_by (key l.bytes) (values l.bytes)) ls;
-  normals = flat_map (λ l. normals_by (key l.bytes) (values l.bytes)) ls;
+  places = flat_map (λ l. places_by (key l.bytes) (values_in l.bytes)) ls;
+  uvs = flat_map (λ l. uvs_by (key l.bytes) (values_in l.bytes)) ls;
+  normals = flat_map (λ l. normals_by (key l.bytes) (values_in l.bytes)) ls;
 }
 
 -- the triangles of all faces, flat ones counted
 unfoldable pub triangles : List Line → ℕ
-triangles ls = sum_by (λ l. triangles_by (key l.bytes) (values l.bytes)) ls
+triangles ls = sum_by (λ l. triangles_by (key l.bytes) (values_in l.bytes)) ls
 
 -- each name once, in the order of first use
 unfoldable pub first_uses : List (List ℕ) → List (List ℕ)
@@ -39,7 +40,7 @@ unfoldable pub names : List Line → List (List ℕ)
 names ls = first_uses (uses ls)
 
 unfoldable pub libs : List Line → List (List ℕ)
-libs ls = first_uses (flat_map (λ l. libraries_by (key l.bytes) (values l.bytes)) ls)
+libs ls = first_uses (flat_map (λ l. libraries_by (key l.bytes) (values_in l.bytes)) ls)
 
 -- the number of the name that is used last: its place among the names, counted from 1. Where none is used it stays
 abbrev pub number_after : ℕ → List (List ℕ) → Option (List ℕ) → ℕ
@@ -54,7 +55,7 @@ in_force ls = number_after 0 (names ls) (last_or None (uses ls))
 unfoldable pub faces_from : List Line → List Line → List Face
 faces_from before [] = []
 faces_from before (l ∷ later) =
-    faces_by (tables before) (in_force before) (key l.bytes) (values l.bytes) ++ faces_from (before ++ l ∷ []) later
+    faces_by (tables before) (in_force before) (key l.bytes) (values_in l.bytes) ++ faces_from (before ++ l ∷ []) later
 
 -- ---- the text
 

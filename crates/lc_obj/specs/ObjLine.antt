@@ -1,10 +1,11 @@
 -- One line of a mesh: what it gives, and the tests that it has to pass.
-use Rattle.std.specs.Prelude.{ℕ, ◌+◌, ◌-◌, Bool, not, nat_lt, nat_le, List, [], ◌∷◌, ◌++◌, length, drop, filter, flat_map, map, Option, Some, None, Result, Ok, Err, ℤ, pos, unsigned_abs, slice_index_or}
+use Rattle.std.specs.Prelude.{ℕ, ◌+◌, ◌-◌, Bool, not, nat_lt, nat_le, List, [], ◌∷◌, ◌++◌, length, drop, filter, flat_map, map, Option, Some, None, Result, Ok, Err, ℤ, pos}
 use Rattle.std.specs.List.{zip}
 use Rattle.lc_num.specs.Cosines.{scaled}
 use Rattle.lc_num.specs.declared.vectors.Vec3.{Vec3}
 use Rattle.lc_geom.specs.Triangles.{is_flat}
-use Rattle.lc_scan.specs.Fields.{fields, rest}
+use Rattle.lc_scan.specs.Fields.{field_at, keyword_in, rest, values_in}
+use Rattle.lc_scan.specs.Coordinates.{is_coordinate}
 use Rattle.lc_scan.specs.Names.{is_utf8}
 use Rattle.lc_scan.specs.Decimal.{decimal_of, units}
 use Rattle.lc_scan.specs.LineTests.{first_kind, unless}
@@ -22,21 +23,14 @@ use Rattle.lc_obj.specs.declared.mesh.Uv.{Uv}
 use Rattle.lc_obj.specs.declared.mesh.UvTriple.{UvTriple}
 use Rattle.lc_obj.specs.declared.tables.Tables.{Tables}
 
--- ---- the parts of a line: its keyword is the first field, its values are the others
-
-abbrev pub field : ℕ → List (List ℕ) → List ℕ
-field k fs = slice_index_or fs k []
-
+-- the keyword of a line says what it gives by its values
 abbrev pub key : List ℕ → Keyword
-key line = keyword_of (field 0 (fields line))
-
-abbrev pub values : List ℕ → List (List ℕ)
-values line = drop 1 (fields line)
+key line = keyword_of (keyword_in line)
 
 -- ---- numbers
 
 abbrev pub number : ℕ → List (List ℕ) → ℤ
-number k vs = units (decimal_of (field k vs))
+number k vs = units (decimal_of (field_at k vs))
 
 unfoldable pub vector : List (List ℕ) → Vec3
 vector vs = record { x = number 0 vs; y = number 1 vs; z = number 2 vs }
@@ -129,7 +123,7 @@ count_test least kind vs = unless (nat_le least (length vs)) kind
 -- a coordinate is a number from -5000 to 5000
 abbrev pub coordinate_in : Result ℤ NumFault → Option FaultKind
 coordinate_in (Err e) = Some kind.Number
-coordinate_in (Ok z) = unless (nat_le (unsigned_abs z) 50000000) kind.Number
+coordinate_in (Ok z) = unless (is_coordinate z) kind.Number
 
 abbrev pub coordinate_test : List ℕ → Option FaultKind
 coordinate_test value = coordinate_in (decimal_of value)
@@ -147,7 +141,8 @@ abbrev pub room_test : ℕ → ℕ → FaultKind → Option FaultKind
 room_test so_far more kind = unless (nat_le (so_far + more) 1000000) kind
 
 abbrev pub coordinate_tests : List (List ℕ) → List (Option FaultKind)
-coordinate_tests vs = coordinate_test (field 0 vs) ∷ coordinate_test (field 1 vs) ∷ coordinate_test (field 2 vs) ∷ []
+coordinate_tests vs =
+    coordinate_test (field_at 0 vs) ∷ coordinate_test (field_at 1 vs) ∷ coordinate_test (field_at 2 vs) ∷ []
 
 unfoldable pub vector_tests : ℕ → List (List ℕ) → List (Option FaultKind)
 vector_tests so_far vs = count_test 3 kind.Words vs ∷ (coordinate_tests vs ++ room_test so_far 1 kind.Vertices ∷ [])
@@ -158,7 +153,7 @@ optional_number_test [] = None
 optional_number_test (value ∷ later) = number_test value
 
 abbrev pub number_tests : List (List ℕ) → List (Option FaultKind)
-number_tests vs = number_test (field 0 vs) ∷ optional_number_test (drop 1 vs) ∷ []
+number_tests vs = number_test (field_at 0 vs) ∷ optional_number_test (drop 1 vs) ∷ []
 
 unfoldable pub uv_tests : ℕ → List (List ℕ) → List (Option FaultKind)
 uv_tests so_far vs = count_test 1 kind.Words vs ∷ (number_tests vs ++ room_test so_far 1 kind.Vertices ∷ [])
@@ -193,4 +188,4 @@ line_tests keyword.Other given triangles line vs = []
 
 -- the kind of the first test that a line fails
 unfoldable pub kind_of : Tables → ℕ → List ℕ → Option FaultKind
-kind_of given triangles line = first_kind (line_tests (key line) given triangles line (values line))
+kind_of given triangles line = first_kind (line_tests (key line) given triangles line (values_in line))

@@ -2,9 +2,10 @@
 use Rattle.std.specs.Prelude.{◌≡◌, ℕ, ◌+◌, ◌≤◌, List, ◌++◌, Option, Some, None}
 use Rattle.std.specs.List.{last_or}
 use Rattle.std.specs.Str.{bytes_eq}
+use Rattle.lc_scan.specs.LineTests.{first_kind}
 use Rattle.indexmap.specs.IndexSet.{insert_all}
 use Rattle.lc_obj.specs.Corners.{AreTables}
-use Rattle.lc_obj.specs.ObjLine.{places_by, uvs_by, normals_by, faces_by, triangles_by, uses_by, libraries_by}
+use Rattle.lc_obj.specs.ObjLine.{line_tests, places_by, uvs_by, normals_by, faces_by, triangles_by, uses_by, libraries_by}
 use Rattle.lc_obj.specs.ObjFile.{number_after}
 use Rattle.lc_obj.specs.declared.keyword.Keyword.{Keyword}
 use Rattle.lc_obj.specs.declared.fault_kind.FaultKind.{FaultKind}
@@ -29,6 +30,10 @@ pub record Adds (key : Keyword) (line : List ℕ) (vs : List (List ℕ)) (old ne
   pub used : new.used ≡ insert_all bytes_eq old.used (uses_by key line)
   pub name : new.name ≡ number_after old.name new.used (last_or None (uses_by key line))
   pub named : new.named ≡ insert_all bytes_eq old.named (libraries_by key vs)
+
+-- the kind of the first test that a line with this keyword and these values fails after what was read
+abbrev pub kind_by : Keyword → List ℕ → List (List ℕ) → Reading → Option FaultKind
+kind_by key line vs before = first_kind (line_tests key before.tables before.triangles line vs)
 
 -- a line stops for want of memory, or for the first test that it fails
 abbrev pub IsLineStop : LineStop → Option FaultKind → Type 0

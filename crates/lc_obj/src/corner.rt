@@ -19,7 +19,8 @@ pub struct Corner {
 }
 
 fn vector_at(index: Index, given: &[Vec3]) -> Result<Vec3, FaultKind>
-    ensures { IsAnswer (index_test (length given.now) index) (slice_index_or given.now (place_of (length given.now) index) zero_vector) result }
+    ensures { IsAnswer (index_test (length given.now) index)
+        (slice_index_or given.now (place_of (length given.now) index) zero_vector) result }
 {
     let at = index.among(given.len())?;
     Ok(given[at])

@@ -2,8 +2,9 @@
 ghost use Rattle.std.specs.Prelude.{◌≡◌, ◌-◌, ◌+◌, ◌<◌, ◌≤◌, [], ◌∷◌, ◌++◌, length, drop, filter, None, IfErr, IfOk, OnOk};
 ghost use Rattle.lc_geom.specs.Triangles.{IsTri};
 ghost use Rattle.lc_obj.specs.Corners.{AreTables, corner_of, corner_tests};
+ghost use Rattle.lc_scan.specs.Fields.{field_at};
 ghost use Rattle.lc_scan.specs.LineTests.{first_kind, IsAnswer, IsTested};
-ghost use Rattle.lc_obj.specs.ObjLine.{corners_tests, face, face_tests, faces_in, field, is_kept, three_normals, three_uvs};
+ghost use Rattle.lc_obj.specs.ObjLine.{corners_tests, face, face_tests, faces_in, is_kept, three_normals, three_uvs};
 ghost use Rattle.lc_obj.specs.Readings.{IsLineStop};
 
 use crate::corner::{Corner, corner_in};
@@ -68,12 +69,10 @@ fn add(faces: &mut List<Face>, face: Face) -> Result<(), Memory>
 fn corner(values: &mut Fields, given: &Tables) -> Result<Corner, FaultKind>
     requires { 0 < length values.old }
     ensures rest { values.new ≡ drop 1 values.old }
-    ensures value { IsAnswer (first_kind (corner_tests given.now (field 0 values.old))) (corner_of given.now (field 0 values.old)) result }
+    ensures value { IsAnswer (first_kind (corner_tests given.now (field_at 0 values.old)))
+        (corner_of given.now (field_at 0 values.old)) result }
 {
-    let Some(value) = values.next_field() else {
-        return Err(FaultKind::Number);
-    };
-    corner_in(value, given)
+    corner_in(values.take_field(), given)
 }
 
 fn test_corners(values: &mut Fields, given: &Tables) -> Result<(), FaultKind>

@@ -36,8 +36,8 @@ pub struct Face {
     pub name: u32,
 }
 
-/// The triangles of a file, at most 1,000,000, of which none is flat. Its names are those of materials, and its libs the
-/// file names of the libraries in which they are; each stands once, in the order of first use.
+/// The triangles of a file, at most 1,000,000, of which none is flat. Its names are those of materials, and its libs
+/// the file names of the libraries in which they are; each stands once, in the order of first use.
 #[derive(Drop)]
 pub struct Mesh {
     pub faces: List<Face>,

@@ -2,10 +2,10 @@
 ghost use Rattle.std.specs.Prelude.{◌≡◌, ◌+◌, ◌<◌, ◌^◌, [], ◌∷◌, ◌++◌, length, map, Some, None, IfErr, OnOk, if◌then◌else◌};
 ghost use Rattle.std.specs.Str.{bytes_eq};
 ghost use Rattle.indexmap.specs.IndexSet.{insert_all, insert_key};
-ghost use Rattle.lc_scan.specs.Fields.{fields};
+ghost use Rattle.lc_scan.specs.Fields.{fields, values_in};
 ghost use Rattle.lc_scan.specs.LineTests.{first_kind};
-ghost use Rattle.lc_obj.specs.ObjLine.{key, kind_of, library_tests, line_tests, name_test, use_tests, values};
-ghost use Rattle.lc_obj.specs.Readings.{Adds, IsLineStop, IsReading};
+ghost use Rattle.lc_obj.specs.ObjLine.{key, kind_of, library_tests, name_test, use_tests};
+ghost use Rattle.lc_obj.specs.Readings.{Adds, IsLineStop, IsReading, kind_by};
 ghost use Rattle.lc_obj.specs.declared.keyword.Keyword.TheVariants.{Library, Use};
 
 use crate::faces::add_face;
@@ -20,7 +20,8 @@ use lc_scan::{Fields, count, name_of, rest};
 use std::alloc::Global;
 
 /// The mesh of the lines that have been read, and what later lines may name: the items given so far, how many triangles
-/// there are with those that were dropped, the number of the material in force, and the names of materials and libraries.
+/// there are with those that were dropped, the number of the material in force, and the names of materials and of
+/// libraries.
 #[derive(Drop)]
 pub struct Reading<'a> {
     pub tables: Tables,
@@ -49,7 +50,9 @@ fn add_library<'a>(
     libs: &mut List<Name>,
 ) -> Result<(), LineStop>
     requires { libs.old ≡ named.old }
-    ensures ok { OnOk result ((name_test name.now ≡ None) × (named.new ≡ insert_key bytes_eq named.old name.now) × (libs.new ≡ named.new)) }
+    ensures ok { OnOk result ((name_test name.now ≡ None)
+        × (named.new ≡ insert_key bytes_eq named.old name.now)
+        × (libs.new ≡ named.new)) }
     ensures fault { IfErr result (λ stop. IsLineStop stop (name_test name.now)) }
 {
     let Some(held) = name_of(alloc, name)? else {
@@ -69,7 +72,9 @@ fn add_libraries<'a>(
     libs: &mut List<Name>,
 ) -> Result<(), LineStop>
     requires { libs.old ≡ named.old }
-    ensures ok { OnOk result ((first_kind (map name_test values.old) ≡ None) × (named.new ≡ insert_all bytes_eq named.old values.old) × (libs.new ≡ named.new)) }
+    ensures ok { OnOk result ((first_kind (map name_test values.old) ≡ None)
+        × (named.new ≡ insert_all bytes_eq named.old values.old)
+        × (libs.new ≡ named.new)) }
     ensures fault { IfErr result (λ stop. IsLineStop stop (first_kind (map name_test values.old))) }
 {
     while let Some(name) = values.next_field() {
@@ -128,7 +133,8 @@ impl<'a> Reading<'a> {
     ) -> Result<(), LineStop>
         requires reading { IsReading self.old }
         requires count { value_count ≡ length values.old }
-        ensures ok { OnOk result ((first_kind (library_tests values.old) ≡ None) × Adds Library [] values.old self.old self.new) }
+        ensures ok { OnOk result ((first_kind (library_tests values.old) ≡ None)
+            × Adds Library [] values.old self.old self.new) }
         ensures valid { OnOk result (IsReading self.new) }
         ensures fault { IfErr result (λ stop. IsLineStop stop (first_kind (library_tests values.old))) }
     {
@@ -141,9 +147,10 @@ impl<'a> Reading<'a> {
     fn add_face(&mut self, values: &mut Fields, value_count: usize) -> Result<(), LineStop>
         requires reading { IsReading self.old }
         requires count { value_count ≡ length values.old }
-        ensures ok { OnOk result ((first_kind (line_tests Keyword.Face self.old.tables self.old.triangles [] values.old) ≡ None) × Adds Keyword.Face [] values.old self.old self.new) }
+        ensures ok { OnOk result ((kind_by Keyword.Face [] values.old self.old ≡ None)
+            × Adds Keyword.Face [] values.old self.old self.new) }
         ensures valid { OnOk result (IsReading self.new) }
-        ensures fault { IfErr result (λ stop. IsLineStop stop (first_kind (line_tests Keyword.Face self.old.tables self.old.triangles [] values.old))) }
+        ensures fault { IfErr result (λ stop. IsLineStop stop (kind_by Keyword.Face [] values.old self.old)) }
     {
         let triangles = add_face(
             values,
@@ -169,9 +176,10 @@ impl<'a> Reading<'a> {
         requires reading { IsReading self.old }
         requires few { length self.old.used < 2 ^ 30 }
         requires count { value_count ≡ length values.old }
-        ensures ok { OnOk result ((first_kind (line_tests key self.old.tables self.old.triangles line.now values.old) ≡ None) × Adds key line.now values.old self.old self.new) }
+        ensures ok { OnOk result ((kind_by key line.now values.old self.old ≡ None)
+            × Adds key line.now values.old self.old self.new) }
         ensures valid { OnOk result (IsReading self.new) }
-        ensures fault { IfErr result (λ stop. IsLineStop stop (first_kind (line_tests key self.old.tables self.old.triangles line.now values.old))) }
+        ensures fault { IfErr result (λ stop. IsLineStop stop (kind_by key line.now values.old self.old)) }
     {
         match key {
             Keyword::Place => self.tables.add_place(values, value_count),
@@ -190,14 +198,13 @@ impl<'a> Reading<'a> {
         requires reading { IsReading self.old }
         requires few { length self.old.used < 2 ^ 30 }
         requires some { 0 < length (fields line.now) }
-        ensures ok { OnOk result ((kind_of self.old.tables self.old.triangles line.now ≡ None) × Adds (key line.now) line.now (values line.now) self.old self.new) }
+        ensures ok { OnOk result ((kind_of self.old.tables self.old.triangles line.now ≡ None)
+            × Adds (key line.now) line.now (values_in line.now) self.old self.new) }
         ensures valid { OnOk result (IsReading self.new) }
         ensures fault { IfErr result (λ stop. IsLineStop stop (kind_of self.old.tables self.old.triangles line.now)) }
     {
         let mut values = Fields::new(line);
-        let Some(word) = values.next_field() else {
-            return Ok(());
-        };
-        self.take_values(alloc, Keyword::of(word), line, &mut values, count(line) - 1)
+        let key = Keyword::of(values.take_field());
+        self.take_values(alloc, key, line, &mut values, count(line) - 1)
     }
 }

@@ -38,7 +38,8 @@ impl Tables {
         ensures ok { OnOk result ((first_kind (vector_tests (length self.old.places) values.old) ≡ None)
             × (self.new ≡ record self.old { places = self.old.places ++ vector values.old ∷ [] })) }
         ensures valid { OnOk result (AreTables self.new) }
-        ensures fault { IfErr result (λ stop. IsLineStop stop (first_kind (vector_tests (length self.old.places) values.old))) }
+        ensures fault { IfErr result (λ stop.
+            IsLineStop stop (first_kind (vector_tests (length self.old.places) values.old))) }
     {
         let place = vector_after(self.places.len(), values, value_count)?;
         self.places.push(place)?;
@@ -51,7 +52,8 @@ impl Tables {
         ensures ok { OnOk result ((first_kind (uv_tests (length self.old.uvs) values.old) ≡ None)
             × (self.new ≡ record self.old { uvs = self.old.uvs ++ uv values.old ∷ [] })) }
         ensures valid { OnOk result (AreTables self.new) }
-        ensures fault { IfErr result (λ stop. IsLineStop stop (first_kind (uv_tests (length self.old.uvs) values.old))) }
+        ensures fault { IfErr result (λ stop.
+            IsLineStop stop (first_kind (uv_tests (length self.old.uvs) values.old))) }
     {
         let place = uv_after(self.uvs.len(), values, value_count)?;
         self.uvs.push(place)?;
@@ -64,7 +66,8 @@ impl Tables {
         ensures ok { OnOk result ((first_kind (vector_tests (length self.old.normals) values.old) ≡ None)
             × (self.new ≡ record self.old { normals = self.old.normals ++ scaled (vector values.old) 16384 ∷ [] })) }
         ensures valid { OnOk result (AreTables self.new) }
-        ensures fault { IfErr result (λ stop. IsLineStop stop (first_kind (vector_tests (length self.old.normals) values.old))) }
+        ensures fault { IfErr result (λ stop.
+            IsLineStop stop (first_kind (vector_tests (length self.old.normals) values.old))) }
     {
         let direction = vector_after(self.normals.len(), values, value_count)?;
         self.normals.push(scaled(direction, 16_384))?;

@@ -1,16 +1,14 @@
 // The numbers of a line, one after the other.
 ghost use Rattle.std.specs.Prelude.{◌≡◌, ◌<◌, ◌≤◌, length, drop, IfOk, unsigned_abs};
 ghost use Rattle.lc_num.specs.Vectors.{Within};
+ghost use Rattle.lc_scan.specs.Fields.{field_at};
 ghost use Rattle.lc_scan.specs.LineTests.{first_kind, IsAnswer};
-ghost use Rattle.lc_obj.specs.ObjLine.{coordinate_test, coordinate_tests, field, number, number_or_0, number_test, number_tests, optional_number_test, uv, uv_tests, vector, vector_tests};
+ghost use Rattle.lc_obj.specs.ObjLine.{coordinate_test, coordinate_tests, number, number_or_0, number_test, number_tests, optional_number_test, uv, uv_tests, vector, vector_tests};
 
 use crate::fault_kind::FaultKind;
 use crate::mesh::Uv;
 use lc_num::Vec3;
-use lc_scan::{Fields, decimal};
-
-/// 5000, in units of 1/10000.
-const MOST_COORDINATE: u64 = 50_000_000;
+use lc_scan::{Fields, decimal, is_coordinate};
 
 /// The most places, texture places or normals of a file.
 const MOST_ITEMS: usize = 1_000_000;
@@ -18,19 +16,16 @@ const MOST_ITEMS: usize = 1_000_000;
 fn coordinate(values: &mut Fields) -> Result<i64, FaultKind>
     requires { 0 < length values.old }
     ensures rest { values.new ≡ drop 1 values.old }
-    ensures value { IsAnswer (coordinate_test (field 0 values.old)) (number 0 values.old) result }
+    ensures value { IsAnswer (coordinate_test (field_at 0 values.old)) (number 0 values.old) result }
     ensures range { IfOk result (λ z. unsigned_abs z ≤ 50_000_000) }
 {
-    let Some(value) = values.next_field() else {
-        return Err(FaultKind::Number);
-    };
-    match decimal(value) {
+    match decimal(values.take_field()) {
         Err(_) => Err(FaultKind::Number),
         Ok(z) => {
-            if z.unsigned_abs() > MOST_COORDINATE {
-                Err(FaultKind::Number)
-            } else {
+            if is_coordinate(z) {
                 Ok(z)
+            } else {
+                Err(FaultKind::Number)
             }
         }
     }
@@ -39,12 +34,9 @@ fn coordinate(values: &mut Fields) -> Result<i64, FaultKind>
 fn number(values: &mut Fields) -> Result<i64, FaultKind>
     requires { 0 < length values.old }
     ensures rest { values.new ≡ drop 1 values.old }
-    ensures value { IsAnswer (number_test (field 0 values.old)) (number 0 values.old) result }
+    ensures value { IsAnswer (number_test (field_at 0 values.old)) (number 0 values.old) result }
 {
-    let Some(value) = values.next_field() else {
-        return Err(FaultKind::Number);
-    };
-    match decimal(value) {
+    match decimal(values.take_field()) {
         Err(_) => Err(FaultKind::Number),
         Ok(z) => Ok(z),
     }

@@ -1,5 +1,5 @@
 -- The lists of every header and of every answer hold those within their ranges, and no others.
-use Rattle.std.proofs.Common.{◌*◌, ◌-◌, ◌^◌, ◌≡◌, ℕ, List, [], ◌∷◌, arith, refl}
+use Rattle.std.proofs.Common.{◌*◌, ◌-◌, ◌^◌, ℕ, [], ◌∷◌, arith}
 use Rattle.std.specs.Prelude.{Contains, All}
 use Rattle.std.proofs.lemmas.List.Elements.{All-contains_itself}
 use Rattle.lc_num.specs.Channels.{IsRgbWithin}

@@ -1,5 +1,5 @@
 -- What a text tells is the record that it is the text of, or its first fault.
-use Rattle.std.proofs.Common.{◌≡◌, ◌≢◌, ◌⊎◌, ℕ, zero, suc, ◌+◌, ◌<◌, Bool, true, false, Option, Some, None, List, [], ◌∷◌, ◌++◌, length, flat_map, nat_eq, ok_or, is_ok, Result, Ok, Err, true≢false, refl, sym, ap, subst, ◌∙◌, arith, inl, inr, length-append}
+use Rattle.std.proofs.Common.{◌≡◌, ◌≢◌, ◌⊎◌, ℕ, zero, suc, ◌+◌, ◌<◌, false, Option, Some, None, List, [], ◌∷◌, ◌++◌, length, flat_map, nat_eq, ok_or, is_ok, Result, Ok, Err, true≢false, refl, sym, ap, subst, ◌∙◌, arith, inl, inr, length-append}
 use Rattle.std.specs.Prelude.{Contains, All, IfErr, IfOk}
 use Rattle.std.specs.List.{starts_with}
 use Rattle.std.proofs.lemmas.List.Elements.{All-cons, All-contains, All-nil}
@@ -13,8 +13,7 @@ use Rattle.lc_record.specs.declared.reader.Record.{Record}
 use Rattle.lc_record.specs.declared.stop.RecordStop.{RecordStop}
 use Rattle.lc_record.specs.declared.stop.RecordStop.TheVariants as stop
 use Rattle.lc_record.specs.Record.{IsHeader, IsSample, record_header, line_bytes}
-use Rattle.lc_record.specs.Reading.{Begins, BeginsWithLines, IsFirstFault, IsLineFault, IsStop, IsTextOf, after_header, differs, ends, fault_after, goes_on, kind_number, no_header, samples}
-use Rattle.lc_record.specs.Pieces.{AreLinesOf}
+use Rattle.lc_record.specs.Reading.{Begins, BeginsWithLines, IsFirstFault, IsLineFault, IsStop, IsTextOf, after_header, differs, ends, fault_after, goes_on, no_header, samples}
 use Rattle.lc_record.specs.Readings.{after, and_then, answers, headers, lines_in, missing, record_in, told_by}
 use Rattle.lc_record.proofs.EveryValue.{answers_have, answers_within, headers_have, headers_within}
 use Rattle.lc_record.proofs.Listing.{find_none, find_some}

@@ -42,19 +42,23 @@ fault_after lines kind = record { line = lines + 2; kind = kind_number kind }
 -- the first fault of the bytes after a header
 pub data IsLineFault (h : Header) (bytes : List ℕ) (fault : Fault) : Type 0 where
   -- what stands in the place of a line is no line of a sample
-  differs : (answers : List Answer) (rest : List ℕ) → BeginsWithLines h answers rest bytes → length answers < samples h → rest ≢ []
-      → (Begins (IsSample h.cut) line_bytes rest → ⊥) → fault ≡ fault_after (length answers) kind.Line → IsLineFault h bytes fault
+  differs : (answers : List Answer) (rest : List ℕ) → BeginsWithLines h answers rest bytes
+      → length answers < samples h → rest ≢ [] → (Begins (IsSample h.cut) line_bytes rest → ⊥)
+      → fault ≡ fault_after (length answers) kind.Line → IsLineFault h bytes fault
   -- the bytes end before a line that should stand
   ends : (answers : List Answer) → BeginsWithLines h answers [] bytes → length answers < samples h
       → fault ≡ fault_after (length answers) kind.Count → IsLineFault h bytes fault
   -- the bytes go on after the last line
-  goes_on : (answers : List Answer) (rest : List ℕ) → BeginsWithLines h answers rest bytes → length answers ≡ samples h → rest ≢ []
+  goes_on : (answers : List Answer) (rest : List ℕ) → BeginsWithLines h answers rest bytes
+      → length answers ≡ samples h → rest ≢ []
       → fault ≡ fault_after (length answers) kind.Count → IsLineFault h bytes fault
 
 -- the first fault of the bytes
 pub data IsFirstFault (bytes : List ℕ) (fault : Fault) : Type 0 where
-  no_header : (Begins IsHeader record_header bytes → ⊥) → fault ≡ record { line = 1; kind = kind_number kind.Header } → IsFirstFault bytes fault
-  after_header : (h : Header) (rest : List ℕ) → IsHeader h → bytes ≡ record_header h ++ rest → IsLineFault h rest fault → IsFirstFault bytes fault
+  no_header : (Begins IsHeader record_header bytes → ⊥)
+      → fault ≡ record { line = 1; kind = kind_number kind.Header } → IsFirstFault bytes fault
+  after_header : (h : Header) (rest : List ℕ) → IsHeader h → bytes ≡ record_header h ++ rest
+      → IsLineFault h rest fault → IsFirstFault bytes fault
 
 -- a fault is one of these; want of memory is free
 abbrev pub IsStop : RecordStop → (Fault → Type 0) → Type 0

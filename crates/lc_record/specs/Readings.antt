@@ -31,7 +31,8 @@ headers =
 -- every colour whose channels are at most `most`
 unfoldable pub colours : ℕ → List Rgb
 colours most =
-    flat_map (λ r. flat_map (λ g. map (λ b. record { r = r; g = g; b = b }) (from_to 0 most)) (from_to 0 most)) (from_to 0 most)
+    flat_map (λ r. flat_map (λ g. map (λ b.
+    record { r = r; g = g; b = b }) (from_to 0 most)) (from_to 0 most)) (from_to 0 most)
 
 -- every answer within the ranges of a cut
 unfoldable pub answers : ℕ → List Answer
@@ -69,6 +70,7 @@ lines_in (suc left) before cut bytes =
 -- the record that the bytes are the text of, or their first fault
 unfoldable pub record_in : List ℕ → Result Record Fault
 record_in bytes =
-    and_then (ok_or (told_by record_header headers bytes) (record { line = 1; kind = kind_number kind.Header })) (λ header.
+    and_then
+    (ok_or (told_by record_header headers bytes) (record { line = 1; kind = kind_number kind.Header })) (λ header.
     and_then (lines_in (samples header) 0 header.cut (after (record_header header) bytes)) (λ lines.
     Ok (record { header = header; lines = lines })))

@@ -18,8 +18,8 @@ record_header h =
 -- size, evaluations, estimate and bound of an answer, in each channel
 unfoldable pub line_bytes : Answer → List ℕ
 line_bytes a =
-    field a.size ++ field a.evals ++ field a.est.r ++ field a.est.g ++ field a.est.b ++ field a.bound.r ++ field a.bound.g
-    ++ decimal a.bound.b ++ codes "\n"
+    field a.size ++ field a.evals ++ field a.est.r ++ field a.est.g ++ field a.est.b ++ field a.bound.r
+    ++ field a.bound.g ++ decimal a.bound.b ++ codes "\n"
 
 -- the numbers of a sample whose cut has at most `most` nodes
 pub record IsSample (most : ℕ) (a : Answer) : Type 0 where

@@ -7,8 +7,8 @@ ghost use Rattle.lc_record.specs.declared.reader.Record.{Record};
 ghost use Rattle.lc_record.specs.Reading.{IsTextOf, IsFirstFault};
 ghost use Rattle.lc_record.specs.Readings.{record_in};
 
-/// A text tells a record where it is the text of that record, and a fault where that is its first fault. In no other case
-/// does it tell either.
+/// A text tells a record where it is the text of that record, and a fault where that is its first fault. In no other
+/// case does it tell either.
 pub fn readings()
     ensures text_told { (bytes : List ℕ) (r : Record) → record_in bytes ≡ Ok r → IsTextOf r.header r.lines bytes }
     ensures fault_told { (bytes : List ℕ) (f : Fault) → record_in bytes ≡ Err f → IsFirstFault bytes f }

@@ -75,7 +75,8 @@ fn header_of(bytes: &[u8]) -> Option<(Header, &[u8])>
 /// The three numbers that the bytes begin with, the last with `end` behind it, and the bytes after these.
 fn colour_of(bytes: &[u8], end: u8) -> Option<(Rgb, &[u8])>
     requires { end < 48 }
-    ensures found { IfSome result (λ read. IsRgbWithin (2 ^ 117 - 1) read.0 × (bytes.now ≡ colour end read.0 ++ read.1.now)) }
+    ensures found { IfSome result (λ read.
+        IsRgbWithin (2 ^ 117 - 1) read.0 × (bytes.now ≡ colour end read.0 ++ read.1.now)) }
     ensures none { IfNone result (Begins (IsRgbWithin (2 ^ 117 - 1)) (colour end) bytes.now → ⊥) }
 {
     let (r, rest) = number(bytes, 0, MOST, b' ')?;

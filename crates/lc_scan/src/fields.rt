@@ -1,7 +1,7 @@
 // The fields of a logical line, one after the other.
 ghost use Rattle.std.specs.Prelude.{◌≡◌, ◌+◌, ◌-◌, ◌<◌, ◌≤◌, [], ◌∷◌, length, drop, take, MatchOption, slice_index, ⊤};
 ghost use Rattle.std.specs.List.{prefix_len, position_or_len, suffix_len};
-ghost use Rattle.lc_scan.specs.Fields.{is_blank, breaks, spaced, is_comment, field_at, fields, fields_in, rest};
+ghost use Rattle.lc_scan.specs.Fields.{is_blank, breaks, spaced, is_comment, fields, fields_in, rest};
 
 use crate::lines::joins;
 use std::marker::Model;
@@ -50,8 +50,7 @@ impl<'a> Fields<'a> {
     /// The next field, where there is one.
     pub fn take_field(&mut self) -> &'a [u8]
         requires { 0 < length self.old }
-        ensures field { result.now ≡ field_at 0 self.old }
-        ensures rest { self.new ≡ drop 1 self.old }
+        ensures { self.old ≡ result.now ∷ self.new }
     {
         match self.next_field() {
             None => unreachable!(),

@@ -1,6 +1,6 @@
 use Rattle.std.proofs.Common.{◌<◌, length, arith, ◌∙◌, ap, length-drop}
 use Rattle.std.proofs.lemmas.Result.{err_from_is_err_and}
-use Rattle.lc_obj.specs.ObjLine.{field}
+use Rattle.lc_scan.specs.Fields.{field_at}
 use Rattle.lc_obj.proofs.CornerLemmas.{corner_valid}
 use Rattle.lc_obj.proofs.FanLemmas.{corner_passed, corner_wrong, first_of, start, next_corner, ends, face_in_range}
 use Rattle.lc_obj.proofs.faces.add_fan.Goals as goal
@@ -9,7 +9,7 @@ pub returns-in_err-first-clause-fault : goal.returns-in_err-first-clause-fault
 returns-in_err-first-clause-fault c =
     let p = err_from_is_err_and c.from_residual.result c.from_residual.ensures.1 in
     let vs = c.args.values.now in
-    rw (p.1, p.2) (corner_wrong c.args.given.now vs c.corner.new.values (field 0 vs) _ (first_of vs c.corner.new.values (omega arith) c.in_err-first.ensures.rest) c.in_err-first.ensures.value)
+    rw (p.1, p.2) (corner_wrong c.args.given.now vs c.corner.new.values (field_at 0 vs) _ (first_of vs c.corner.new.values (omega arith) c.in_err-first.ensures.rest) c.in_err-first.ensures.value)
 
 pub returns-in_err-previous-clause-fault : goal.returns-in_err-previous-clause-fault
 returns-in_err-previous-clause-fault c =
@@ -18,8 +18,8 @@ returns-in_err-previous-clause-fault c =
     let ws = c.corner.new.values in
     let some : 0 < length ws = omega (arith, ap length c.in_ok-first.ensures.rest, length-drop 1 vs) in
     rw (p.1, p.2)
-    (corner_passed c.args.given.now vs ws (field 0 vs) (first_of vs ws (omega arith) c.in_ok-first.ensures.rest) c.in_ok-first.ensures.value.0
-    ∙ corner_wrong c.args.given.now ws c.corner-2.new.values (field 0 ws) _ (first_of ws c.corner-2.new.values some c.in_err-previous.ensures.rest) c.in_err-previous.ensures.value)
+    (corner_passed c.args.given.now vs ws (field_at 0 vs) (first_of vs ws (omega arith) c.in_ok-first.ensures.rest) c.in_ok-first.ensures.value.0
+    ∙ corner_wrong c.args.given.now ws c.corner-2.new.values (field_at 0 ws) _ (first_of ws c.corner-2.new.values some c.in_err-previous.ensures.rest) c.in_err-previous.ensures.value)
 
 pub loop-value-init : goal.loop-value-init
 loop-value-init c =

@@ -5,7 +5,8 @@ use Rattle.std.proofs.lemmas.List.{length-map}
 use Rattle.std.proofs.lemmas.List.Elements.{All-nil, All-cons, All-contains}
 use Rattle.lc_desk.specs.Calls.{Call, after_calls, put, slot_of}
 use Rattle.lc_desk.specs.Causes.{Rose}
-use Rattle.lc_desk.specs.Desk.{DeskState, Files, appended, fault_at}
+use Rattle.lc_desk.specs.Desk.{DeskState, Files, appended}
+use Rattle.lc_desk.specs.Slots.{slot_at}
 use Rattle.lc_desk.specs.declared.desk.Slot.{Slot}
 use Rattle.lc_desk.specs.declared.desk.Slot.TheVariants.{Picture, Bounds, Report}
 use Rattle.lc_rated.specs.declared.answer.Answer.{Answer}
@@ -208,7 +209,7 @@ only_report slot c = All-contains (λ s. s ≡ Report) (Report ∷ []) slot (All
 own_faultless : (c : Course Work) (checked : ℕ) (before now : DeskState) → c.end ≡ Ok (yes_work checked) → HasNoAuditFault before now → IsFaultless c before now
 own_faultless c checked before now e h = record {
   reads = h.reads;
-  slots = λ slot called rose. h.report (subst (λ s. Rose (fault_at before.faults s) (fault_at now.faults s))
+  slots = λ slot called rose. h.report (subst (λ s. Rose (slot_at before.faults.puts s) (slot_at now.faults.puts s))
       (only_report slot (subst (λ end. Contains (map slot_of (calls_of end)) slot) e called)) rose);
 }
 

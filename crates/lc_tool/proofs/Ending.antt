@@ -99,7 +99,7 @@ counts_last {A} status step next a x y steps_before steps_now first counted = λ
 -- ---- a line on Report
 
 -- a put on Report that took a part and was refused
-pub report_broke : (line : List ℕ) (x y : DeskState) → OnlySlot Report x y → y.begins ≡ x.begins → TookPart line x.slots.report y.slots.report → Rose x.faults.report y.faults.report → Broke (frame.Write Report) (put Report line ∷ []) x y
+pub report_broke : (line : List ℕ) (x y : DeskState) → OnlySlot Report x y → y.begins ≡ x.begins → TookPart line x.slots.report y.slots.report → Rose x.faults.puts.report y.faults.puts.report → Broke (frame.Write Report) (put Report line ∷ []) x y
 report_broke line x y same begins part rose = (
   record {
     done = [];

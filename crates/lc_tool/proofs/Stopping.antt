@@ -22,7 +22,7 @@ pub noted_later : (line : List ℕ) (before mid now : DeskState) → OnlyReads b
 noted_later line before mid now reads noted = record {
   later = later_then before mid now reads.later noted.later;
   slots = noted.slots ∙ ap (λ s. with_slot s Note now.slots.note) reads.slots;
-  faults = noted.faults ∙ ap (λ f. with_note f now.faults.reads now.faults.note) reads.faults;
+  faults = noted.faults ∙ ap (λ f. with_note f now.faults.reads now.faults.puts.note) reads.faults;
   begins = noted.begins ∙ reads.begins;
   said = said_since line before mid now (ap (λ s. s.note) reads.slots) reads.later noted.said;
 }

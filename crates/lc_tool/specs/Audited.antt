@@ -64,7 +64,7 @@ pub record IsOwnRecord (world : World) (text : List ℕ) : Type 0 where
 -- no fault of a read and none of Report was counted
 pub record HasNoAuditFault (before now : DeskState) : Type 0 where
   pub reads : ¬ Rose before.faults.reads now.faults.reads
-  pub report : ¬ Rose before.faults.report now.faults.report
+  pub report : ¬ Rose before.faults.puts.report now.faults.puts.report
 
 -- the two files are as they were
 pub record KeepsFiles (before now : DeskState) : Type 0 where

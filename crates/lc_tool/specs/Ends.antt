@@ -2,7 +2,8 @@
 use Rattle.std.specs.Prelude.{◌≡◌, ◌⊎◌, ℕ, ◌+◌, List, ◌++◌, map, Contains, Option, Some, None, IfSome, IfOk}
 use Rattle.lc_desk.specs.Calls.{AreOn, Made, begins_of, slot_of}
 use Rattle.lc_desk.specs.Causes.{Rose}
-use Rattle.lc_desk.specs.Desk.{DeskState, Faults, OnlyReads, fault_at}
+use Rattle.lc_desk.specs.Desk.{DeskState, OnlyReads}
+use Rattle.lc_desk.specs.Slots.{slot_at}
 use Rattle.lc_desk.specs.declared.desk.Slot.{Slot}
 use Rattle.lc_frame.specs.Stops.{StoppedIn}
 use Rattle.lc_frame.specs.declared.stop.FrameStop.{FrameStop}
@@ -85,21 +86,18 @@ Breaks words stop before now = BrokenBy stop (slots_of (command_of words)) (outc
 
 -- the count of faults of a slot that the command writes rose
 abbrev pub HasFailed : List (List ℕ) → Slot → DeskState → DeskState → Type 0
-HasFailed words slot before now = Contains (slots_of (command_of words)) slot × Rose (fault_at before.faults slot) (fault_at now.faults slot)
+HasFailed words slot before now = Contains (slots_of (command_of words)) slot × Rose (slot_at before.faults.puts slot) (slot_at now.faults.puts slot)
 
 -- ---- what follows, by the number
 
 -- no fault of a read or of a slot that the outcome writes was counted
 pub record IsFaultless (course : Course Work) (before now : DeskState) : Type 0 where
   pub reads : ¬ Rose before.faults.reads now.faults.reads
-  pub slots : (slot : Slot) → Contains (map slot_of (calls_of course.end)) slot → ¬ Rose (fault_at before.faults slot) (fault_at now.faults slot)
+  pub slots : (slot : Slot) → Contains (map slot_of (calls_of course.end)) slot → ¬ Rose (slot_at before.faults.puts slot) (slot_at now.faults.puts slot)
 
 -- the status is that of the outcome, or there was no memory
 abbrev pub IsComplete : List (List ℕ) → ℕ → DeskState → DeskState → Type 0
 IsComplete words result before now = (course : Course Work) → outcome words before.held ≡ Some course → IsFaultless course before now → (result ≡ status_of course.end) ⊎ (result ≡ 1)
-
-abbrev pub no_faults : Faults
-no_faults = record { reads = 0; picture = 0; bounds = 0; report = 0; note = 0 }
 
 -- the form of a status's line
 abbrev pub IsLineOf : Status → List ℕ → Type 0

@@ -1,5 +1,6 @@
 // The call of the program.
 ghost use Rattle.std.specs.Prelude.{◌≡◌, ◌⊎◌, ◌≤◌, ℕ, List as Items, None, Some, ◌↔◌, IfSome, IsTrue};
+ghost use Rattle.lc_desk.specs.Desk.{no_faults};
 ghost use Rattle.lc_desk.specs.declared.desk.Slot.{Slot};
 ghost use Rattle.lc_frame.specs.declared.stop.FrameStop.TheVariants as frame;
 ghost use Rattle.lc_tool.specs.declared.status.Source.{Source};
@@ -8,7 +9,7 @@ ghost use Rattle.lc_tool.specs.declared.world.World.{World};
 ghost use Rattle.lc_tool.specs.Words.{audit as audit_words, make as make_words, command_of, texts};
 ghost use Rattle.lc_tool.specs.Status.{source_code};
 ghost use Rattle.lc_tool.specs.Outcome.{outcome};
-ghost use Rattle.lc_tool.specs.Ends.{Runs, Counts, Does, Stops, Breaks, HasFailed, HasLine, SameOutputs, IsComplete, OpensOnly, no_faults};
+ghost use Rattle.lc_tool.specs.Ends.{Runs, Counts, Does, Stops, Breaks, HasFailed, HasLine, SameOutputs, IsComplete, OpensOnly};
 ghost use Rattle.lc_tool.specs.Probed.{Records};
 ghost use Rattle.lc_tool.specs.Audited.{AuditFails, AuditHolds, HasNoAuditFault, IsAuditOf, IsOwnRecord, KeepsFiles};
 ghost use Rattle.lc_tool.specs.Rendered.{AreCounted, AreFractions, AreNear, HasPicture, HasPlainPicture, HasRecord, HasSummary, HasWorld, IsMakeOf, IsPlainOf, IsRenderOf, LeavesParts, LeavesPlainPart, LeavesSummary, Renders};

@@ -3,7 +3,8 @@ use Rattle.std.proofs.Common.{◌≡◌, ℕ, ◌+◌, List, refl, sym, ◌∙�
 use Rattle.std.proofs.lemmas.List.Elements.{All-cons, All-nil}
 use Rattle.lc_desk.specs.Calls.{AreOn, Made, put, slot_of}
 use Rattle.lc_desk.specs.Causes.{Rose}
-use Rattle.lc_desk.specs.Desk.{DeskState, Files, OnlySlot, TookPart, with_slot}
+use Rattle.lc_desk.specs.Desk.{DeskState, Files, OnlySlot, TookPart}
+use Rattle.lc_desk.specs.Slots.{with_slot}
 use Rattle.lc_desk.specs.declared.desk.Slot.{Slot}
 use Rattle.lc_desk.specs.declared.desk.Slot.TheVariants.{Report}
 use Rattle.lc_frame.specs.Stops.{Broke, StoppedIn}

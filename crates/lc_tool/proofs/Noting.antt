@@ -7,7 +7,8 @@ use Rattle.lc_desk.specs.declared.desk.PutStop.TheVariants.{Failed, Memory}
 use Rattle.lc_desk.specs.Causes.{Rose}
 use Rattle.lc_desk.proofs.RoseLemmas.{Rose-since}
 use Rattle.lc_desk.proofs.CallLemmas.{later_then, appended-nil, appended-appended}
-use Rattle.lc_desk.specs.Desk.{DeskState, OnlySlot, TookPart, appended, with_slot}
+use Rattle.lc_desk.specs.Desk.{DeskState, OnlySlot, TookPart, appended}
+use Rattle.lc_desk.specs.Slots.{with_slot}
 use Rattle.lc_tool.specs.Noted.{Noted, Said}
 use Rattle.lc_tool.proofs.Keeps.{with_note}
 

@@ -4,7 +4,8 @@ use Rattle.lc_desk.specs.declared.desk.Slot.TheVariants.{Note}
 use Rattle.lc_desk.specs.Causes.{Rose}
 use Rattle.lc_desk.proofs.RoseLemmas.{Rose-since, Rose-until}
 use Rattle.lc_desk.proofs.CallLemmas.{later_then}
-use Rattle.lc_desk.specs.Desk.{DeskState, Files, Told, Later, OnlyReads, with_slot}
+use Rattle.lc_desk.specs.Desk.{DeskState, Files, Told, Later, OnlyReads}
+use Rattle.lc_desk.specs.Slots.{with_slot}
 use Rattle.lc_tool.specs.declared.status.Source.{Source}
 use Rattle.lc_tool.specs.declared.status.Stop.{Stop}
 use Rattle.lc_tool.specs.declared.status.Stop.TheVariants.{Memory, Faulty, Absent, ReadFault, Long, Refuted}

@@ -1,5 +1,5 @@
 -- Begins and puts, one after another.
-use Rattle.std.proofs.Common.{◌≡◌, ℕ, ◌≤◌, List, [], ◌∷◌, ◌++◌, refl, sym, ◌∙◌, ap, subst, arith, append_assoc, append-nil, Option, Some, None, option_map, IsTrue, All, Contains}
+use Rattle.std.proofs.Common.{◌≡◌, ℕ, List, [], ◌∷◌, ◌++◌, refl, sym, ◌∙◌, ap, subst, arith, append_assoc, append-nil, Option, Some, None, option_map, IsTrue, All, Contains}
 use Rattle.std.proofs.lemmas.List.Elements.{All-append, All-head, All-tail}
 use Rattle.lc_desk.specs.declared.desk.Slot.{Slot}
 use Rattle.lc_desk.specs.declared.desk.Slot.TheVariants.{Picture, Bounds, Report, Note}
@@ -7,7 +7,8 @@ use Rattle.lc_desk.specs.declared.desk.PutStop.{PutStop}
 use Rattle.lc_desk.specs.declared.desk.PutStop.TheVariants.{Failed, Memory}
 use Rattle.lc_desk.specs.Causes.{Rose}
 use Rattle.lc_desk.proofs.RoseLemmas.{Rose-since, Rose-until}
-use Rattle.lc_desk.specs.Desk.{DeskState, SlotState, Slots, Later, OnlySlot, TookPart, CanPut, slot_at, with_slot, fault_at, opened, appended}
+use Rattle.lc_desk.specs.Desk.{DeskState, SlotState, Slots, Later, OnlySlot, TookPart, CanPut, opened, appended}
+use Rattle.lc_desk.specs.Slots.{slot_at, with_slot}
 use Rattle.lc_desk.specs.Calls.{Call, begin, put, slot_of, begins_of, after_call, after_calls, after_part, Made, HasRisen, BrokeOff, AreOn}
 
 -- ---- what every call keeps
@@ -17,10 +18,7 @@ later_none d = record {
   held = refl;
   steady = refl;
   reads = omega arith;
-  picture = omega arith;
-  bounds = omega arith;
-  report = omega arith;
-  note = omega arith;
+  puts = λ slot. omega arith;
   absents = omega arith;
   longs = omega arith;
   shorts = omega arith;
@@ -32,22 +30,12 @@ later_then a b c ab bc = record {
   held = bc.held ∙ ab.held;
   steady = bc.steady ∙ ab.steady;
   reads = omega arith;
-  picture = omega arith;
-  bounds = omega arith;
-  report = omega arith;
-  note = omega arith;
+  puts = λ slot. let first = ab.puts slot in let second = bc.puts slot in omega arith;
   absents = omega arith;
   longs = omega arith;
   shorts = omega arith;
   no_fault = λ steady. bc.no_fault (subst IsTrue (sym ab.steady) steady) ∙ ab.no_fault steady;
 }
-
--- no slot's count falls
-pub fault_later : (slot : Slot) (before now : DeskState) → Later before now → fault_at before.faults slot ≤ fault_at now.faults slot
-fault_later Picture before now later = later.picture
-fault_later Bounds before now later = later.bounds
-fault_later Report before now later = later.report
-fault_later Note before now later = later.note
 
 -- appending nothing
 pub appended-nil : (s : SlotState) → appended [] s ≡ s
@@ -134,7 +122,7 @@ abbrev pub broke_begin : (why : PutStop) (slot : Slot) (name : List ℕ) (x y : 
 broke_begin why slot name x y kept cause begins same = broke_one why (begin slot name) 0 x y same.later kept same.asked begins cause
 
 -- one put that takes a part and is refused
-abbrev pub broke_put_part : (slot : Slot) (piece : List ℕ) (x y : DeskState) → TookPart piece (slot_at x.slots slot) (slot_at y.slots slot) → Rose (fault_at x.faults slot) (fault_at y.faults slot) → y.begins ≡ x.begins → OnlySlot slot x y → BrokeOff Failed (put slot piece ∷ []) x y
+abbrev pub broke_put_part : (slot : Slot) (piece : List ℕ) (x y : DeskState) → TookPart piece (slot_at x.slots slot) (slot_at y.slots slot) → Rose (slot_at x.faults.puts slot) (slot_at y.faults.puts slot) → y.begins ≡ x.begins → OnlySlot slot x y → BrokeOff Failed (put slot piece ∷ []) x y
 broke_put_part slot piece x y part cause begins same =
     broke_one Failed (put slot piece) part.count x y same.later (same.slots ∙ ap (with_slot x.slots slot) part.held) same.asked
     (begins ∙ sym (append-nil x.begins)) cause
@@ -163,11 +151,11 @@ broke_before why a b x y broke = record {
 
 -- a cause in a later part is a cause in the whole
 pub risen_since : (why : PutStop) (slot : Slot) (x y z : DeskState) → Later x y → HasRisen why slot y z → HasRisen why slot x z
-risen_since Failed slot x y z later cause = Rose-since _ _ _ (fault_later slot x y later) cause
+risen_since Failed slot x y z later cause = Rose-since _ _ _ (later.puts slot) cause
 risen_since Memory slot x y z later cause = Rose-since _ _ _ later.shorts cause
 
 pub risen_until : (why : PutStop) (slot : Slot) (x y z : DeskState) → HasRisen why slot x y → Later y z → HasRisen why slot x z
-risen_until Failed slot x y z cause later = Rose-until _ _ _ cause (fault_later slot y z later)
+risen_until Failed slot x y z cause later = Rose-until _ _ _ cause (later.puts slot)
 risen_until Memory slot x y z cause later = Rose-until _ _ _ cause later.shorts
 
 -- calls had been made before

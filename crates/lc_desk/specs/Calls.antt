@@ -4,7 +4,8 @@ use Rattle.lc_desk.specs.declared.desk.Slot.{Slot}
 use Rattle.lc_desk.specs.declared.desk.PutStop.{PutStop}
 use Rattle.lc_desk.specs.declared.desk.PutStop.TheVariants as stop
 use Rattle.lc_desk.specs.Causes.{Rose}
-use Rattle.lc_desk.specs.Desk.{DeskState, Slots, Later, slot_at, with_slot, fault_at, opened, appended}
+use Rattle.lc_desk.specs.Desk.{DeskState, Slots, Later, opened, appended}
+use Rattle.lc_desk.specs.Slots.{slot_at, with_slot}
 
 -- a begin of a slot under a name, or a put of a piece
 pub data Call : Type 0 where
@@ -45,7 +46,7 @@ pub record Made (calls : List Call) (before now : DeskState) : Type 0 where
 
 -- the count that a refused begin or put rests on rose
 abbrev pub HasRisen : PutStop → Slot → DeskState → DeskState → Type 0
-HasRisen stop.Failed slot before now = Rose (fault_at before.faults slot) (fault_at now.faults slot)
+HasRisen stop.Failed slot before now = Rose (slot_at before.faults.puts slot) (slot_at now.faults.puts slot)
 HasRisen stop.Memory slot before now = Rose before.shorts now.shorts
 
 -- the calls were made one after another up to one that was refused: those before it were answered Ok, and it left a part

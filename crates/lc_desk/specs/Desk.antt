@@ -2,6 +2,8 @@
 use Rattle.std.specs.Prelude.{◌≡◌, ◌≤◌, ◌++◌, ℕ, List, [], take, Bool, true, IsTrue, Option, IfSome, option_map}
 use Rattle.lc_desk.specs.declared.desk.Slot.{Slot}
 use Rattle.lc_desk.specs.declared.desk.Slot.TheVariants.{Picture, Bounds, Report, Note}
+use Rattle.lc_desk.specs.declared.per_slot.PerSlot.{PerSlot}
+use Rattle.lc_desk.specs.Slots.{alike, slot_at, with_slot}
 
 -- the bytes of a file, by its name
 abbrev pub Files : Type 0
@@ -13,19 +15,16 @@ pub record SlotState : Type 0 where
   pub named : Option (List ℕ)
   pub begun : Bool
 
-pub record Slots : Type 0 where
-  pub picture : SlotState
-  pub bounds : SlotState
-  pub report : SlotState
-  pub note : SlotState
+abbrev pub Slots : Type 0
+Slots = PerSlot SlotState
 
--- five counts of faults
+-- how many reads failed, and how many begins and puts of each slot
 pub record Faults : Type 0 where
   pub reads : ℕ
-  pub picture : ℕ
-  pub bounds : ℕ
-  pub report : ℕ
-  pub note : ℕ
+  pub puts : PerSlot ℕ
+
+abbrev pub no_faults : Faults
+no_faults = record { reads = 0; puts = alike 0 }
 
 pub record DeskState : Type 0 where
   pub held : Option Files
@@ -40,30 +39,6 @@ pub record DeskState : Type 0 where
   pub asked : List (List ℕ)
   -- the slots that it was asked to begin, each with its name, in order
   pub begins : List (Slot × List ℕ)
-
-abbrev pub slot_at : Slots → Slot → SlotState
-slot_at s Picture = s.picture
-slot_at s Bounds = s.bounds
-slot_at s Report = s.report
-slot_at s Note = s.note
-
-abbrev pub with_slot : Slots → Slot → SlotState → Slots
-with_slot s Picture x = record s { picture = x }
-with_slot s Bounds x = record s { bounds = x }
-with_slot s Report x = record s { report = x }
-with_slot s Note x = record s { note = x }
-
-abbrev pub fault_at : Faults → Slot → ℕ
-fault_at f Picture = f.picture
-fault_at f Bounds = f.bounds
-fault_at f Report = f.report
-fault_at f Note = f.note
-
-abbrev pub with_fault : Faults → Slot → ℕ → Faults
-with_fault f Picture n = record f { picture = n }
-with_fault f Bounds n = record f { bounds = n }
-with_fault f Report n = record f { report = n }
-with_fault f Note n = record f { note = n }
 
 -- a slot that was begun, or Report or Note
 abbrev pub CanPut : Slots → Slot → Type 0
@@ -90,10 +65,7 @@ pub record Later (before now : DeskState) : Type 0 where
   pub held : now.held ≡ before.held
   pub steady : now.steady ≡ before.steady
   pub reads : before.faults.reads ≤ now.faults.reads
-  pub picture : before.faults.picture ≤ now.faults.picture
-  pub bounds : before.faults.bounds ≤ now.faults.bounds
-  pub report : before.faults.report ≤ now.faults.report
-  pub note : before.faults.note ≤ now.faults.note
+  pub puts : (slot : Slot) → slot_at before.faults.puts slot ≤ slot_at now.faults.puts slot
   pub absents : before.absents ≤ now.absents
   pub longs : before.longs ≤ now.longs
   pub shorts : before.shorts ≤ now.shorts
@@ -112,7 +84,7 @@ pub record OnlyReads (before now : DeskState) : Type 0 where
 pub record OnlySlot (slot : Slot) (before now : DeskState) : Type 0 where
   pub later : Later before now
   pub slots : now.slots ≡ with_slot before.slots slot (slot_at now.slots slot)
-  pub faults : now.faults ≡ with_fault before.faults slot (fault_at now.faults slot)
+  pub faults : now.faults ≡ record before.faults { puts = with_slot before.faults.puts slot (slot_at now.faults.puts slot) }
   pub asked : now.asked ≡ before.asked
 
 -- over a desk that tells its files, the file of this name is so

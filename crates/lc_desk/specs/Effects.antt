@@ -6,7 +6,8 @@ use Rattle.lc_desk.specs.declared.desk.ReadStop.{ReadStop}
 use Rattle.lc_desk.specs.declared.desk.ReadStop.TheVariants as read_stop
 use Rattle.lc_desk.specs.declared.desk.PutStop.{PutStop}
 use Rattle.lc_desk.specs.declared.desk.PutStop.TheVariants as put_stop
-use Rattle.lc_desk.specs.Desk.{DeskState, SlotState, slot_at, with_slot, fault_at, with_fault, opened, appended}
+use Rattle.lc_desk.specs.Desk.{DeskState, SlotState, opened, appended}
+use Rattle.lc_desk.specs.Slots.{slot_at, with_slot}
 
 -- a refused read raises the one count of its cause, and want of memory none
 abbrev pub counts_after : {T : Type 0} → Result T ReadStop → DeskState → DeskState
@@ -41,7 +42,7 @@ shorts_after (Err put_stop.Memory) n = raised n
 
 -- a begin or a put of the slot raises the one count of its cause by one, and no other
 pub record CountsPut {T : Type 0} (result : Result T PutStop) (slot : Slot) (before now : DeskState) : Type 0 where
-  pub faults : now.faults ≡ with_fault before.faults slot (faults_after result (fault_at before.faults slot))
+  pub faults : now.faults ≡ record before.faults { puts = with_slot before.faults.puts slot (faults_after result (slot_at before.faults.puts slot)) }
   pub shorts : now.shorts ≡ shorts_after result before.shorts
   pub absents : now.absents ≡ before.absents
   pub longs : now.longs ≡ before.longs
@@ -61,7 +62,7 @@ slot_after_put (Err put_stop.Memory) part s = s
 abbrev pub after_begin : {T : Type 0} → Result T PutStop → Slot → List ℕ → DeskState → DeskState
 after_begin result slot name d = record d {
   slots = with_slot d.slots slot (slot_after_begin result name (slot_at d.slots slot));
-  faults = with_fault d.faults slot (faults_after result (fault_at d.faults slot));
+  faults = record d.faults { puts = with_slot d.faults.puts slot (faults_after result (slot_at d.faults.puts slot)) };
   shorts = shorts_after result d.shorts;
   begins = d.begins ++ (slot, name) ∷ [];
 }
@@ -70,7 +71,7 @@ after_begin result slot name d = record d {
 abbrev pub after_put : {T : Type 0} → Result T PutStop → Slot → List ℕ → DeskState → DeskState
 after_put result slot part d = record d {
   slots = with_slot d.slots slot (slot_after_put result part (slot_at d.slots slot));
-  faults = with_fault d.faults slot (faults_after result (fault_at d.faults slot));
+  faults = record d.faults { puts = with_slot d.faults.puts slot (faults_after result (slot_at d.faults.puts slot)) };
   shorts = shorts_after result d.shorts;
 }
 

@@ -1,7 +1,8 @@
 -- What the desk of the system tells: which slots were begun, its counts and what it was asked, but no contents.
 use Rattle.std.specs.Prelude.{◌≡◌, ℕ, List, [], Bool, false, Option, None, Some, take}
 use Rattle.std.specs.Io.KnownBytes.{Appends}
-use Rattle.lc_desk.specs.Desk.{DeskState, SlotState}
+use Rattle.lc_desk.specs.Desk.{DeskState, SlotState, no_faults}
+use Rattle.lc_desk.specs.Slots.{alike, each}
 use Rattle.lc_desk.specs.declared.tally.Tally.{Tally}
 
 abbrev pub untold : Bool → SlotState
@@ -10,8 +11,8 @@ untold begun = record { out = None; named = None; begun = begun }
 abbrev pub tally_state : Tally → DeskState
 tally_state t = record {
   held = None;
-  slots = record { picture = untold t.picture.begun; bounds = untold t.bounds.begun; report = untold t.report.begun; note = untold t.note.begun };
-  faults = record { reads = t.reads; picture = t.picture.faults; bounds = t.bounds.faults; report = t.report.faults; note = t.note.faults };
+  slots = each (λ s. untold s.begun) t.slots;
+  faults = record { reads = t.reads; puts = each (λ s. s.faults) t.slots };
   absents = t.absents;
   longs = t.longs;
   shorts = t.shorts;
@@ -24,8 +25,8 @@ tally_state t = record {
 abbrev pub untold_state : DeskState
 untold_state = record {
   held = None;
-  slots = record { picture = untold false; bounds = untold false; report = untold false; note = untold false };
-  faults = record { reads = 0; picture = 0; bounds = 0; report = 0; note = 0 };
+  slots = alike (untold false);
+  faults = no_faults;
   absents = 0;
   longs = 0;
   shorts = 0;

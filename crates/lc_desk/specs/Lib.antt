@@ -1,3 +1,5 @@
+pub mod Slots
+pub mod SlotLends
 pub mod Calls
 pub mod Causes
 pub mod Desk

@@ -5,7 +5,8 @@ use Rattle.std.specs.BTreeMap.{get_by_text}
 use Rattle.lc_desk.specs.Causes.{raised}
 use Rattle.lc_desk.specs.declared.desk.ReadStop.{ReadStop}
 use Rattle.lc_desk.specs.declared.desk.ReadStop.TheVariants.{Absent, Long, Failed}
-use Rattle.lc_desk.specs.Desk.{DeskState, SlotState, Files}
+use Rattle.lc_desk.specs.Desk.{DeskState, SlotState, Files, no_faults}
+use Rattle.lc_desk.specs.Slots.{alike, each}
 use Rattle.lc_desk.specs.declared.kept.Kept.{Kept}
 use Rattle.lc_desk.specs.declared.memory.Failure.{Failure}
 use Rattle.lc_desk.specs.declared.memory.MemoryDesk.{MemoryDesk}
@@ -36,8 +37,8 @@ memory_files d name = option_map (λ v. v.items) (get_by_text d.files name)
 abbrev pub memory_state : MemoryDesk → DeskState
 memory_state d = record {
   held = Some (memory_files d);
-  slots = record { picture = kept_state d.picture; bounds = kept_state d.bounds; report = kept_state d.report; note = kept_state d.note };
-  faults = record { reads = d.read_faults; picture = d.picture.faults; bounds = d.bounds.faults; report = d.report.faults; note = d.note.faults };
+  slots = each kept_state d.slots;
+  faults = record { reads = d.read_faults; puts = each (λ k. k.faults) d.slots };
   absents = d.absents;
   longs = d.longs;
   shorts = d.shorts;
@@ -56,8 +57,8 @@ empty_slot = record { out = Some []; named = None; begun = false }
 abbrev pub empty_state : DeskState
 empty_state = record {
   held = Some (λ name. None);
-  slots = record { picture = empty_slot; bounds = empty_slot; report = empty_slot; note = empty_slot };
-  faults = record { reads = 0; picture = 0; bounds = 0; report = 0; note = 0 };
+  slots = alike empty_slot;
+  faults = no_faults;
   absents = 0;
   longs = 0;
   shorts = 0;

@@ -1,8 +1,9 @@
 // The outside world as the program sees it.
 ghost use Rattle.std.specs.Prelude.{◌≡◌, ◌<◌, ◌≤◌, ◌++◌, ◌∷◌, ℕ, [], List, length, OnOk, OnErr, IsErrOf, Some, None};
 ghost use Rattle.lc_desk.specs.Causes.{Rose};
-ghost use Rattle.lc_desk.specs.Desk.{DeskState, OnlyReads, OnlySlot, CanPut, Told, slot_at, fault_at, opened, appended, TookPart};
+ghost use Rattle.lc_desk.specs.Desk.{DeskState, OnlyReads, OnlySlot, CanPut, Told, opened, appended, TookPart};
 ghost use Rattle.lc_desk.specs.Effects.{CountsPut, CountsRead};
+ghost use Rattle.lc_desk.specs.Slots.{slot_at};
 
 /// What the program writes to.
 #[derive(Clone, Copy, Debug, PartialEq, Eq)]
@@ -70,7 +71,7 @@ pub trait Desk {
     fn begin(&mut self, slot: Slot, name: &str) -> Result<(), PutStop>
         ensures begun { OnOk result (slot_at (state self.new).slots slot ≡ opened name.now (slot_at (state self.old).slots slot)) }
         ensures kept { OnErr result ((state self.new).slots ≡ (state self.old).slots) }
-        ensures failed { IsErrOf result PutStop.Failed → Rose (fault_at (state self.old).faults slot) (fault_at (state self.new).faults slot) }
+        ensures failed { IsErrOf result PutStop.Failed → Rose (slot_at (state self.old).faults.puts slot) (slot_at (state self.new).faults.puts slot) }
         ensures memory { IsErrOf result PutStop.Memory → Rose (state self.old).shorts (state self.new).shorts }
         ensures counted { CountsPut result slot (state self.old) (state self.new) }
         ensures asked { (state self.new).begins ≡ (state self.old).begins ++ (slot, name.now) ∷ [] }
@@ -83,7 +84,7 @@ pub trait Desk {
     fn put(&mut self, slot: Slot, piece: &[u8]) -> Result<(), PutStop>
         requires { CanPut (state self.old).slots slot }
         ensures put { OnOk result (slot_at (state self.new).slots slot ≡ appended piece.now (slot_at (state self.old).slots slot)) }
-        ensures failed { IsErrOf result PutStop.Failed → Rose (fault_at (state self.old).faults slot) (fault_at (state self.new).faults slot) }
+        ensures failed { IsErrOf result PutStop.Failed → Rose (slot_at (state self.old).faults.puts slot) (slot_at (state self.new).faults.puts slot) }
         ensures part { IsErrOf result PutStop.Failed → TookPart piece.now (slot_at (state self.old).slots slot) (slot_at (state self.new).slots slot) }
         ensures memory { IsErrOf result PutStop.Memory → Rose (state self.old).shorts (state self.new).shorts }
         ensures kept { IsErrOf result PutStop.Memory → (state self.new).slots ≡ (state self.old).slots }

@@ -1,8 +1,9 @@
 // The desk of the operating system: files by their paths, Report on standard output, Note on standard error.
 ghost use Rattle.std.specs.Prelude.{◌≡◌, ◌≢◌, ◌<◌, ◌≤◌, ◌++◌, ◌∷◌, ℕ, [], List, length, None, Some, OnOk, OnErr, IsErr, IsErrAnd, IsErrOf, IfErr, IfOk, IfSome, IsOk, IsSome, Err};
 ghost use Rattle.lc_desk.specs.Causes.{Rose};
-ghost use Rattle.lc_desk.specs.Desk.{CanPut, OnlyReads, OnlySlot, Told, TookPart, appended, fault_at, opened, slot_at};
+ghost use Rattle.lc_desk.specs.Desk.{CanPut, OnlyReads, OnlySlot, Told, TookPart, appended, opened};
 ghost use Rattle.lc_desk.specs.Effects.{CountsPut, CountsRead, after_begin, after_put, after_read};
+ghost use Rattle.lc_desk.specs.Slots.{slot_at};
 ghost use Rattle.lc_desk.specs.Host.{AppendsPart, HasMore, HasPart, tally_state, untold_state};
 ghost use Rattle.lc_desk.specs.System.{StopsOpen, StopsPut};
 ghost use Rattle.std.specs.Io.KnownBytes.{Appends};
@@ -169,7 +170,7 @@ impl<'a, R: Files + Print, E: Print> Desk for HostDesk<'a, R, E> {
         // The trait's clauses.
         ensures begun { OnOk result (slot_at (tally_state self.new.tally).slots slot ≡ opened name.now (slot_at (tally_state self.old.tally).slots slot)) }
         ensures kept { OnErr result ((tally_state self.new.tally).slots ≡ (tally_state self.old.tally).slots) }
-        ensures failed { IsErrOf result PutStop.Failed → Rose (fault_at (tally_state self.old.tally).faults slot) (fault_at (tally_state self.new.tally).faults slot) }
+        ensures failed { IsErrOf result PutStop.Failed → Rose (slot_at (tally_state self.old.tally).faults.puts slot) (slot_at (tally_state self.new.tally).faults.puts slot) }
         ensures memory { IsErrOf result PutStop.Memory → Rose (tally_state self.old.tally).shorts (tally_state self.new.tally).shorts }
         ensures counted { CountsPut result slot (tally_state self.old.tally) (tally_state self.new.tally) }
         ensures asked { (tally_state self.new.tally).begins ≡ (tally_state self.old.tally).begins ++ (slot, name.now) ∷ [] }
@@ -199,7 +200,7 @@ impl<'a, R: Files + Print, E: Print> Desk for HostDesk<'a, R, E> {
         requires { CanPut (tally_state self.old.tally).slots slot }
         // The trait's clauses.
         ensures put { OnOk result (slot_at (tally_state self.new.tally).slots slot ≡ appended piece.now (slot_at (tally_state self.old.tally).slots slot)) }
-        ensures failed { IsErrOf result PutStop.Failed → Rose (fault_at (tally_state self.old.tally).faults slot) (fault_at (tally_state self.new.tally).faults slot) }
+        ensures failed { IsErrOf result PutStop.Failed → Rose (slot_at (tally_state self.old.tally).faults.puts slot) (slot_at (tally_state self.new.tally).faults.puts slot) }
         ensures part { IsErrOf result PutStop.Failed → TookPart piece.now (slot_at (tally_state self.old.tally).slots slot) (slot_at (tally_state self.new.tally).slots slot) }
         ensures memory { IsErrOf result PutStop.Memory → Rose (tally_state self.old.tally).shorts (tally_state self.new.tally).shorts }
         ensures kept { IsErrOf result PutStop.Memory → (tally_state self.new.tally).slots ≡ (tally_state self.old.tally).slots }

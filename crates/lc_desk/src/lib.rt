@@ -7,6 +7,7 @@ mod host;
 mod kept;
 mod log;
 mod memory;
+mod per_slot;
 mod streams;
 mod tally;
 

@@ -2,12 +2,14 @@
 ghost use Rattle.std.specs.Prelude.{◌≡◌, ◌==◌, ◌<◌, ◌≤◌, ◌++◌, ◌∷◌, length, IsErrOf, ℕ, [], List, OnOk, OnErr, Some, None, false, if◌then◌else◌, MatchOption, IsOkUnless, Err, ◌⊎◌};
 ghost use Rattle.std.specs.Str.{bytes_eq};
 ghost use Rattle.lc_desk.specs.Causes.{Rose};
-ghost use Rattle.lc_desk.specs.Desk.{slot_at, fault_at, opened, appended, TookPart, OnlyReads, OnlySlot, CanPut, Told};
+ghost use Rattle.lc_desk.specs.Desk.{opened, appended, TookPart, OnlyReads, OnlySlot, CanPut, Told};
 ghost use Rattle.lc_desk.specs.Effects.{CountsPut, CountsRead, after_read, after_begin, after_put, part_of};
+ghost use Rattle.lc_desk.specs.Slots.{slot_at};
 ghost use Rattle.lc_desk.specs.Memory.{memory_state, memory_view, empty_view, taken_at as taken_by, file_of, taken_next, read_stop, called, or_else};
 
 use crate::kept::Kept;
 use crate::log::Log;
+use crate::per_slot::PerSlot;
 use crate::{Desk, PutStop, ReadStop, Slot};
 use lc_num::Memory;
 use std::alloc::Global;
@@ -27,10 +29,7 @@ struct Failure {
 pub struct MemoryDesk {
     alloc: Global,
     files: BTreeMap<String, Vec<u8>>,
-    picture: Kept,
-    bounds: Kept,
-    report: Kept,
-    note: Kept,
+    slots: PerSlot<Kept>,
     read_faults: u64,
     absents: u64,
     longs: u64,
@@ -55,10 +54,12 @@ impl MemoryDesk {
         MemoryDesk {
             alloc,
             files: BTreeMap::new(alloc),
-            picture: Kept::new(alloc),
-            bounds: Kept::new(alloc),
-            report: Kept::new(alloc),
-            note: Kept::new(alloc),
+            slots: PerSlot {
+                picture: Kept::new(alloc),
+                bounds: Kept::new(alloc),
+                report: Kept::new(alloc),
+                note: Kept::new(alloc),
+            },
             read_faults: 0,
             absents: 0,
             longs: 0,
@@ -98,12 +99,7 @@ impl MemoryDesk {
     pub fn told(&self, slot: Slot) -> &[u8]
         ensures { Some result.now ≡ (slot_at (memory_state self.now).slots slot).out }
     {
-        match slot {
-            Slot::Picture => self.picture.as_slice(),
-            Slot::Bounds => self.bounds.as_slice(),
-            Slot::Report => self.report.as_slice(),
-            Slot::Note => self.note.as_slice(),
-        }
+        self.slots.at(slot).as_slice()
     }
 }
 
@@ -157,7 +153,7 @@ impl Desk for MemoryDesk {
         // The trait's clauses.
         ensures begun { OnOk result (slot_at (memory_state self.new).slots slot ≡ opened name.now (slot_at (memory_state self.old).slots slot)) }
         ensures kept { OnErr result ((memory_state self.new).slots ≡ (memory_state self.old).slots) }
-        ensures failed { IsErrOf result PutStop.Failed → Rose (fault_at (memory_state self.old).faults slot) (fault_at (memory_state self.new).faults slot) }
+        ensures failed { IsErrOf result PutStop.Failed → Rose (slot_at (memory_state self.old).faults.puts slot) (slot_at (memory_state self.new).faults.puts slot) }
         ensures memory { IsErrOf result PutStop.Memory → Rose (memory_state self.old).shorts (memory_state self.new).shorts }
         ensures counted { CountsPut result slot (memory_state self.old) (memory_state self.new) }
         ensures asked { (memory_state self.new).begins ≡ (memory_state self.old).begins ++ (slot, name.now) ∷ [] }
@@ -171,20 +167,16 @@ impl Desk for MemoryDesk {
         self.calls = self.calls.saturating_add(1);
         let taken = taken_at(self.calls, &self.failing);
         let alloc = self.alloc;
-        let shorts = &mut self.shorts;
-        match slot {
-            Slot::Picture => self.picture.begin(alloc, taken, shorts, name),
-            Slot::Bounds => self.bounds.begin(alloc, taken, shorts, name),
-            Slot::Report => self.report.begin(alloc, taken, shorts, name),
-            Slot::Note => self.note.begin(alloc, taken, shorts, name),
-        }
+        self.slots
+            .at_mut(slot)
+            .begin(alloc, taken, &mut self.shorts, name)
     }
 
     fn put(&mut self, slot: Slot, piece: &[u8]) -> Result<(), PutStop>
         requires { CanPut (memory_state self.old).slots slot }
         // The trait's clauses.
         ensures put { OnOk result (slot_at (memory_state self.new).slots slot ≡ appended piece.now (slot_at (memory_state self.old).slots slot)) }
-        ensures failed { IsErrOf result PutStop.Failed → Rose (fault_at (memory_state self.old).faults slot) (fault_at (memory_state self.new).faults slot) }
+        ensures failed { IsErrOf result PutStop.Failed → Rose (slot_at (memory_state self.old).faults.puts slot) (slot_at (memory_state self.new).faults.puts slot) }
         ensures part { IsErrOf result PutStop.Failed → TookPart piece.now (slot_at (memory_state self.old).slots slot) (slot_at (memory_state self.new).slots slot) }
         ensures memory { IsErrOf result PutStop.Memory → Rose (memory_state self.old).shorts (memory_state self.new).shorts }
         ensures kept { IsErrOf result PutStop.Memory → (memory_state self.new).slots ≡ (memory_state self.old).slots }
@@ -198,12 +190,8 @@ impl Desk for MemoryDesk {
     {
         self.calls = self.calls.saturating_add(1);
         let taken = taken_at(self.calls, &self.failing);
-        let shorts = &mut self.shorts;
-        match slot {
-            Slot::Picture => self.picture.put(taken, shorts, piece),
-            Slot::Bounds => self.bounds.put(taken, shorts, piece),
-            Slot::Report => self.report.put(taken, shorts, piece),
-            Slot::Note => self.note.put(taken, shorts, piece),
-        }
+        self.slots
+            .at_mut(slot)
+            .put(taken, &mut self.shorts, piece)
     }
 }

@@ -1,11 +1,13 @@
 // What the desk of the system counts, which of its slots were begun, and what it was asked.
 ghost use Rattle.std.specs.Prelude.{◌≡◌, ◌≤◌, ◌++◌, ◌∷◌, [], OnOk, OnErr, IsErrOf, IsTrue, true, false};
 ghost use Rattle.lc_desk.specs.Causes.{Rose};
-ghost use Rattle.lc_desk.specs.Desk.{OnlyReads, OnlySlot, slot_at, fault_at};
+ghost use Rattle.lc_desk.specs.Desk.{OnlyReads, OnlySlot};
 ghost use Rattle.lc_desk.specs.Effects.{after_read, after_begin, after_put, faults_after, shorts_after};
 ghost use Rattle.lc_desk.specs.Host.{tally_state, untold_state};
+ghost use Rattle.lc_desk.specs.Slots.{slot_at};
 
 use crate::log::Log;
+use crate::per_slot::PerSlot;
 use crate::{PutStop, ReadStop, Slot};
 
 #[derive(Drop)]
@@ -16,10 +18,7 @@ pub(crate) struct SlotTally {
 
 #[derive(Drop)]
 pub(crate) struct Tally {
-    pub(crate) picture: SlotTally,
-    pub(crate) bounds: SlotTally,
-    pub(crate) report: SlotTally,
-    pub(crate) note: SlotTally,
+    pub(crate) slots: PerSlot<SlotTally>,
     pub(crate) reads: u64,
     pub(crate) absents: u64,
     pub(crate) longs: u64,
@@ -74,10 +73,12 @@ impl Tally {
         ensures { tally_state result ≡ untold_state }
     {
         Tally {
-            picture: SlotTally::new(),
-            bounds: SlotTally::new(),
-            report: SlotTally::new(),
-            note: SlotTally::new(),
+            slots: PerSlot {
+                picture: SlotTally::new(),
+                bounds: SlotTally::new(),
+                report: SlotTally::new(),
+                note: SlotTally::new(),
+            },
             reads: 0,
             absents: 0,
             longs: 0,
@@ -108,35 +109,23 @@ impl Tally {
     pub(crate) fn begin(&mut self, slot: Slot, name: &str, outcome: Result<(), PutStop>)
         ensures begun { OnOk outcome (IsTrue (slot_at (tally_state self.new).slots slot).begun) }
         ensures kept { OnErr outcome ((tally_state self.new).slots ≡ (tally_state self.old).slots) }
-        ensures failed { IsErrOf outcome PutStop.Failed → Rose (fault_at (tally_state self.old).faults slot) (fault_at (tally_state self.new).faults slot) }
+        ensures failed { IsErrOf outcome PutStop.Failed → Rose (slot_at (tally_state self.old).faults.puts slot) (slot_at (tally_state self.new).faults.puts slot) }
         ensures memory { IsErrOf outcome PutStop.Memory → Rose self.old.shorts self.new.shorts }
         ensures same { OnlySlot slot (tally_state self.old) (tally_state self.new) }
         ensures after { tally_state self.new ≡ after_begin outcome slot name.now (tally_state self.old) }
     {
         self.log.begin(&slot, name);
-        let shorts = &mut self.shorts;
-        match slot {
-            Slot::Picture => self.picture.begin(shorts, outcome),
-            Slot::Bounds => self.bounds.begin(shorts, outcome),
-            Slot::Report => self.report.begin(shorts, outcome),
-            Slot::Note => self.note.begin(shorts, outcome),
-        }
+        self.slots.at_mut(slot).begin(&mut self.shorts, outcome);
     }
 
     // Counts a put, where it was refused.
     pub(crate) fn put(&mut self, slot: Slot, outcome: Result<(), PutStop>)
         ensures kept { (tally_state self.new).slots ≡ (tally_state self.old).slots }
-        ensures failed { IsErrOf outcome PutStop.Failed → Rose (fault_at (tally_state self.old).faults slot) (fault_at (tally_state self.new).faults slot) }
+        ensures failed { IsErrOf outcome PutStop.Failed → Rose (slot_at (tally_state self.old).faults.puts slot) (slot_at (tally_state self.new).faults.puts slot) }
         ensures memory { IsErrOf outcome PutStop.Memory → Rose self.old.shorts self.new.shorts }
         ensures same { OnlySlot slot (tally_state self.old) (tally_state self.new) }
         ensures after { tally_state self.new ≡ after_put outcome slot [] (tally_state self.old) }
     {
-        let shorts = &mut self.shorts;
-        match slot {
-            Slot::Picture => self.picture.count(shorts, outcome),
-            Slot::Bounds => self.bounds.count(shorts, outcome),
-            Slot::Report => self.report.count(shorts, outcome),
-            Slot::Note => self.note.count(shorts, outcome),
-        }
+        self.slots.at_mut(slot).count(&mut self.shorts, outcome);
     }
 }

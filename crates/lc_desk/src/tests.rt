@@ -180,10 +180,10 @@ fn meets_the_system(rt: HostRuntime) -> Result<(), Fail> {
     let counts = [tally.reads, tally.absents, tally.longs, tally.shorts];
     assert_eq!(rt; counts, [1, 1, 2, 0]);
     let faults = [
-        tally.picture.faults,
-        tally.bounds.faults,
-        tally.report.faults,
-        tally.note.faults,
+        tally.slots.picture.faults,
+        tally.slots.bounds.faults,
+        tally.slots.report.faults,
+        tally.slots.note.faults,
     ];
     assert_eq!(rt; faults, [1, 1, 0, 0]);
     fs::remove_file(&rt, "desk_scene.obj")?;

@@ -3,7 +3,8 @@ use Rattle.std.proofs.Common.{◌≡◌, ℕ, zero, suc, List, [], ◌∷◌, �
 use Rattle.std.proofs.lemmas.List.Elements.{All-nil, All-cons}
 use Rattle.lc_num.specs.declared.channels.Rgb.{Rgb}
 use Rattle.lc_desk.specs.Calls.{AreOn, BrokeOff, Call, after_calls, begin, put, slot_of}
-use Rattle.lc_desk.specs.Desk.{DeskState, Slots, appended, opened, slot_at}
+use Rattle.lc_desk.specs.Desk.{DeskState, Slots, appended, opened}
+use Rattle.lc_desk.specs.Slots.{slot_at}
 use Rattle.lc_desk.specs.declared.desk.PutStop.{PutStop}
 use Rattle.lc_desk.specs.declared.desk.Slot.{Slot}
 use Rattle.lc_desk.specs.declared.desk.Slot.TheVariants.{Picture}

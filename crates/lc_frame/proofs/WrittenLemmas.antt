@@ -2,7 +2,8 @@
 use Rattle.std.proofs.Common.{◌≡◌, ℕ, zero, suc, List, [], ◌∷◌, ◌++◌, take, flat_map, refl, sym, ◌∙◌, ap, subst, arith, append-nil, inl, inr, Contains, slice_index_or}
 use Rattle.std.proofs.lemmas.List.Elements.{All-nil, All-cons}
 use Rattle.lc_desk.specs.Calls.{AreOn, BrokeOff, Call, after_calls, begin, put, slot_of}
-use Rattle.lc_desk.specs.Desk.{DeskState, SlotState, Slots, appended, opened, slot_at}
+use Rattle.lc_desk.specs.Desk.{DeskState, SlotState, Slots, appended, opened}
+use Rattle.lc_desk.specs.Slots.{slot_at}
 use Rattle.lc_desk.specs.declared.desk.PutStop.{PutStop}
 use Rattle.lc_desk.specs.declared.desk.Slot.{Slot}
 use Rattle.lc_desk.specs.declared.desk.Slot.TheVariants.{Picture, Bounds, Report, Note}

@@ -1,17 +1,17 @@
 -- What `audit` says, and what it leaves.
-use Rattle.std.proofs.Common.{◌≡◌, ◌⊎◌, ℕ, ◌%◌, ◌≤◌, List, [], ◌∷◌, length, map, refl, sym, ◌∙◌, ap, subst, arith, inl, inr, Option, Some, None, IfSome, IfOk, Result, Ok, Err, cond, Contains, ◌+◌}
+use Rattle.std.proofs.Common.{◌≡◌, ◌⊎◌, ℕ, List, [], ◌∷◌, length, map, refl, sym, ◌∙◌, ap, subst, arith, inl, inr, Option, Some, None, IfSome, IfOk, Result, Ok, Err, cond, Contains, ◌+◌}
 use Rattle.std.proofs.lemmas.Bool.{le-ltb}
 use Rattle.std.proofs.lemmas.List.{length-map}
 use Rattle.std.proofs.lemmas.List.Elements.{All-nil, All-cons, All-contains}
-use Rattle.lc_desk.specs.Calls.{Call, after_calls, put, slot_of}
+use Rattle.lc_desk.specs.Calls.{after_calls, put, slot_of}
 use Rattle.lc_desk.specs.Causes.{Rose}
-use Rattle.lc_desk.specs.Desk.{DeskState, Files, appended, fault_at}
+use Rattle.lc_desk.specs.Desk.{DeskState, Files, appended}
+use Rattle.lc_desk.specs.Slots.{slot_at}
 use Rattle.lc_desk.specs.declared.desk.Slot.{Slot}
 use Rattle.lc_desk.specs.declared.desk.Slot.TheVariants.{Picture, Bounds, Report}
 use Rattle.lc_rated.specs.declared.answer.Answer.{Answer}
-use Rattle.lc_view.specs.Samples.{sample_count, sample_rays}
+use Rattle.lc_view.specs.Samples.{sample_rays}
 use Rattle.lc_view.proofs.SampleLemmas.{sample_rays-length}
-use Rattle.lc_job.specs.declared.job.Job.{Job}
 use Rattle.lc_sample.proofs.SampleLemmas.{sample_bound, sample_est, sample_evals, sample_size}
 use Rattle.lc_record.specs.Reading.{IsTextOf}
 use Rattle.lc_record.specs.Record.{IsSample}
@@ -22,7 +22,7 @@ use Rattle.lc_audit.specs.declared.verdict.Miss.{Miss}
 use Rattle.lc_audit.specs.declared.verdict.Verdict.{Verdict}
 use Rattle.lc_audit.specs.declared.verdict.Verdict.TheVariants.{Yes, No}
 use Rattle.lc_audit.proofs.Promises.{named_fails, own_yes, some_hold}
-use Rattle.lc_frame.specs.Frames.{answers_of, header_of, record_text}
+use Rattle.lc_frame.specs.Frames.{header_of}
 use Rattle.lc_tool.specs.declared.status.Status.{Status}
 use Rattle.lc_tool.specs.declared.status.Status.TheVariants.{Done, Usage, Stopped, Unwritten}
 use Rattle.lc_tool.specs.declared.status.Stop.TheVariants.{Refuted}
@@ -32,7 +32,7 @@ use Rattle.lc_tool.specs.Course.{Course, Refusal, at_once, goes_on, refuses, tol
 use Rattle.lc_tool.specs.Ends.{Counts, Ends, IsFaultless, Runs}
 use Rattle.lc_tool.specs.Lines.{long_line, miss_line, record_limit}
 use Rattle.lc_tool.specs.Noted.{Noted}
-use Rattle.lc_tool.specs.Outcome.{audit_course, audit_world, audited, course_of, judged, kept_of, kept_text, outcome, record_of, same_header, status_of, text_of, unless_wrong, within, world_of, yes_line}
+use Rattle.lc_tool.specs.Outcome.{audit_course, audit_world, audited, course_of, judged, kept_of, kept_text, outcome, record_of, same_header, status_of, unless_wrong, within, world_of, yes_line}
 use Rattle.lc_tool.specs.Rendered.{TellsRecord, recorded}
 use Rattle.lc_tool.specs.Status.{code}
 use Rattle.lc_tool.specs.Stopped.{Gave, RefusedBy, StoppedBy}
@@ -208,7 +208,7 @@ only_report slot c = All-contains (λ s. s ≡ Report) (Report ∷ []) slot (All
 own_faultless : (c : Course Work) (checked : ℕ) (before now : DeskState) → c.end ≡ Ok (yes_work checked) → HasNoAuditFault before now → IsFaultless c before now
 own_faultless c checked before now e h = record {
   reads = h.reads;
-  slots = λ slot called rose. h.report (subst (λ s. Rose (fault_at before.faults s) (fault_at now.faults s))
+  slots = λ slot called rose. h.report (subst (λ s. Rose (slot_at before.faults.puts s) (slot_at now.faults.puts s))
       (only_report slot (subst (λ end. Contains (map slot_of (calls_of end)) slot) e called)) rose);
 }
 

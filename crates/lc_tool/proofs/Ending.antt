@@ -3,7 +3,8 @@ use Rattle.std.proofs.Common.{◌≡◌, ℕ, ◌+◌, List, refl, sym, ◌∙�
 use Rattle.std.proofs.lemmas.List.Elements.{All-cons, All-nil}
 use Rattle.lc_desk.specs.Calls.{AreOn, Made, put, slot_of}
 use Rattle.lc_desk.specs.Causes.{Rose}
-use Rattle.lc_desk.specs.Desk.{DeskState, Files, OnlySlot, TookPart, with_slot}
+use Rattle.lc_desk.specs.Desk.{DeskState, Files, OnlySlot, TookPart}
+use Rattle.lc_desk.specs.Slots.{with_slot}
 use Rattle.lc_desk.specs.declared.desk.Slot.{Slot}
 use Rattle.lc_desk.specs.declared.desk.Slot.TheVariants.{Report}
 use Rattle.lc_frame.specs.Stops.{Broke, StoppedIn}
@@ -99,7 +100,7 @@ counts_last {A} status step next a x y steps_before steps_now first counted = λ
 -- ---- a line on Report
 
 -- a put on Report that took a part and was refused
-pub report_broke : (line : List ℕ) (x y : DeskState) → OnlySlot Report x y → y.begins ≡ x.begins → TookPart line x.slots.report y.slots.report → Rose x.faults.report y.faults.report → Broke (frame.Write Report) (put Report line ∷ []) x y
+pub report_broke : (line : List ℕ) (x y : DeskState) → OnlySlot Report x y → y.begins ≡ x.begins → TookPart line x.slots.report y.slots.report → Rose x.faults.puts.report y.faults.puts.report → Broke (frame.Write Report) (put Report line ∷ []) x y
 report_broke line x y same begins part rose = (
   record {
     done = [];

@@ -18,7 +18,7 @@ with_reads f n = record f { reads = n }
 
 -- the same faults, but for those of reads and of Note
 abbrev pub with_note : Faults → ℕ → ℕ → Faults
-with_note f n m = record f { reads = n; note = m }
+with_note f n m = record { reads = n; puts = record f.puts { note = m } }
 
 -- nothing is done
 pub reads_none : (d : DeskState) → OnlyReads d d
@@ -64,6 +64,6 @@ said_since line before mid now note later (inr cut) = inr (record {
   part = cut.part ∙ ap (appended (take cut.count line)) note;
   cause = cause cut.cause;
 }) where
-  cause : Rose mid.faults.note now.faults.note ⊎ Rose mid.shorts now.shorts → Rose before.faults.note now.faults.note ⊎ Rose before.shorts now.shorts
-  cause (inl rose) = inl (Rose-since _ _ _ later.note rose)
+  cause : Rose mid.faults.puts.note now.faults.puts.note ⊎ Rose mid.shorts now.shorts → Rose before.faults.puts.note now.faults.puts.note ⊎ Rose before.shorts now.shorts
+  cause (inl rose) = inl (Rose-since _ _ _ (later.puts Note) rose)
   cause (inr rose) = inr (Rose-since _ _ _ later.shorts rose)

@@ -7,7 +7,8 @@ use Rattle.lc_desk.specs.declared.desk.PutStop.TheVariants.{Failed, Memory}
 use Rattle.lc_desk.specs.Causes.{Rose}
 use Rattle.lc_desk.proofs.RoseLemmas.{Rose-since}
 use Rattle.lc_desk.proofs.CallLemmas.{later_then, appended-nil, appended-appended}
-use Rattle.lc_desk.specs.Desk.{DeskState, OnlySlot, TookPart, appended, with_slot}
+use Rattle.lc_desk.specs.Desk.{DeskState, OnlySlot, TookPart, appended}
+use Rattle.lc_desk.specs.Slots.{with_slot}
 use Rattle.lc_tool.specs.Noted.{Noted, Said}
 use Rattle.lc_tool.proofs.Keeps.{with_note}
 
@@ -22,7 +23,7 @@ pub noted_more : (piece rest : List ℕ) (before mid now : DeskState) → OnlySl
 noted_more piece rest before mid now only begins put noted = record {
   later = later_then before mid now only.later noted.later;
   slots = noted.slots ∙ ap (λ s. with_slot s Note now.slots.note) only.slots;
-  faults = noted.faults ∙ ap (λ f. with_note f now.faults.reads now.faults.note) only.faults;
+  faults = noted.faults ∙ ap (λ f. with_note f now.faults.reads now.faults.puts.note) only.faults;
   begins = noted.begins ∙ begins;
   said = said noted.said;
 } where
@@ -33,15 +34,15 @@ noted_more piece rest before mid now only begins put noted = record {
     part = cut.part ∙ ap (appended (take cut.count rest)) put ∙ appended-appended piece (take cut.count rest) before.slots.note ∙ ap (λ p. appended p before.slots.note) (sym (take-append-add piece rest cut.count));
     cause = cause cut.cause;
   }) where
-    cause : Rose mid.faults.note now.faults.note ⊎ Rose mid.shorts now.shorts → Rose before.faults.note now.faults.note ⊎ Rose before.shorts now.shorts
-    cause (inl rose) = inl (Rose-since _ _ _ only.later.note rose)
+    cause : Rose mid.faults.puts.note now.faults.puts.note ⊎ Rose mid.shorts now.shorts → Rose before.faults.puts.note now.faults.puts.note ⊎ Rose before.shorts now.shorts
+    cause (inl rose) = inl (Rose-since _ _ _ (only.later.puts Note) rose)
     cause (inr rose) = inr (Rose-since _ _ _ only.later.shorts rose)
 
-note_faults : (before now : DeskState) → OnlySlot Note before now → now.faults ≡ with_note before.faults now.faults.reads now.faults.note
-note_faults before now only = only.faults ∙ ap (λ r. with_note before.faults r now.faults.note) (sym (ap (λ f. f.reads) only.faults))
+note_faults : (before now : DeskState) → OnlySlot Note before now → now.faults ≡ with_note before.faults now.faults.reads now.faults.puts.note
+note_faults before now only = only.faults ∙ ap (λ r. with_note before.faults r now.faults.puts.note) (sym (ap (λ f. f.reads) only.faults))
 
 -- a piece that Note refused
-noted_part : (piece rest : List ℕ) (before now : DeskState) → OnlySlot Note before now → now.begins ≡ before.begins → TookPart piece before.slots.note now.slots.note → Rose before.faults.note now.faults.note → Noted (piece ++ rest) before now
+noted_part : (piece rest : List ℕ) (before now : DeskState) → OnlySlot Note before now → now.begins ≡ before.begins → TookPart piece before.slots.note now.slots.note → Rose before.faults.puts.note now.faults.puts.note → Noted (piece ++ rest) before now
 noted_part piece rest before now only begins part rose =
     let front = part_of_line part.count piece rest in
     record {
@@ -64,7 +65,7 @@ noted_short line before now only begins same rose = record {
 
 -- a piece that was refused
 pub noted_refused : {T : Type 0} (piece rest : List ℕ) (before now : DeskState) (result : Result T PutStop) → is_ok result ≡ false → OnlySlot Note before now → now.begins ≡ before.begins
-    → (IsErrOf result Failed → TookPart piece before.slots.note now.slots.note) → (IsErrOf result Failed → Rose before.faults.note now.faults.note)
+    → (IsErrOf result Failed → TookPart piece before.slots.note now.slots.note) → (IsErrOf result Failed → Rose before.faults.puts.note now.faults.puts.note)
     → (IsErrOf result Memory → now.slots ≡ before.slots) → (IsErrOf result Memory → Rose before.shorts now.shorts)
     → Noted (piece ++ rest) before now
 noted_refused piece rest before now (Ok x) refused only begins part failed kept memory = absurd (cc)
@@ -74,7 +75,7 @@ noted_refused piece rest before now (Err Memory) refused only begins part failed
 -- a piece, put or refused
 pub noted_put : {T : Type 0} (piece : List ℕ) (before now : DeskState) (result : Result T PutStop) → OnlySlot Note before now → now.begins ≡ before.begins
     → OnOk result (now.slots.note ≡ appended piece before.slots.note)
-    → (IsErrOf result Failed → TookPart piece before.slots.note now.slots.note) → (IsErrOf result Failed → Rose before.faults.note now.faults.note)
+    → (IsErrOf result Failed → TookPart piece before.slots.note now.slots.note) → (IsErrOf result Failed → Rose before.faults.puts.note now.faults.puts.note)
     → (IsErrOf result Memory → now.slots ≡ before.slots) → (IsErrOf result Memory → Rose before.shorts now.shorts)
     → Noted piece before now
 noted_put piece before now (Ok x) only begins put part failed kept memory = record {

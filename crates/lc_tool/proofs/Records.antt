@@ -1,5 +1,5 @@
 -- The record that `audit` reads: its header, its lines, and what its course has gone through.
-use Rattle.std.proofs.Common.{◌≡◌, ◌⊎◌, ℕ, List, [], length, refl, sym, ◌∙◌, ap, subst, arith, inl, inr, Option, Some, None, Result, Ok, Err, Bool, true, false, cond, nat_lt, ◌++◌}
+use Rattle.std.proofs.Common.{◌≡◌, ◌⊎◌, ℕ, List, [], length, refl, ◌∙◌, ap, subst, inl, inr, Option, Some, None, Result, Ok, Err, Bool, true, false, cond, nat_lt, ◌++◌}
 use Rattle.std.specs.Prelude.{◌&&◌, ◌==◌}
 use Rattle.std.specs.Str.{bytes_eq}
 use Rattle.std.proofs.lemmas.Bool.{eq-eqb}

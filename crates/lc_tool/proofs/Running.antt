@@ -8,9 +8,10 @@ use Rattle.lc_desk.specs.declared.desk.PutStop.{PutStop}
 use Rattle.lc_desk.specs.declared.desk.PutStop.TheVariants as put_stop
 use Rattle.lc_desk.specs.Calls.{Call, begin, put, slot_of, begins_of, after_calls, after_part, Made, BrokeOff, AreOn}
 use Rattle.lc_desk.specs.Causes.{Rose}
-use Rattle.lc_desk.specs.Desk.{DeskState, Slots, Files, Later, slot_at, fault_at}
+use Rattle.lc_desk.specs.Desk.{DeskState, Slots, Files, Later, no_faults}
+use Rattle.lc_desk.specs.Slots.{slot_at}
 use Rattle.lc_desk.proofs.RoseLemmas.{Rose-since, Rose-until}
-use Rattle.lc_desk.proofs.CallLemmas.{IsOff, later_none, later_then, fault_later, begins_of-append, other_after_calls, refused_on}
+use Rattle.lc_desk.proofs.CallLemmas.{IsOff, later_none, later_then, begins_of-append, other_after_calls, refused_on}
 use Rattle.lc_frame.specs.Stops.{StoppedIn}
 use Rattle.lc_frame.specs.declared.stop.FrameStop.{FrameStop}
 use Rattle.lc_frame.specs.declared.stop.FrameStop.TheVariants as frame
@@ -28,7 +29,7 @@ use Rattle.lc_tool.specs.Outcome.{course_of, slots_of, status_of}
 use Rattle.lc_tool.specs.Status.{stop_code, code}
 use Rattle.lc_tool.specs.Noted.{Noted, Said}
 use Rattle.lc_tool.specs.Stopped.{Reads, ReadsFirst, Gave, Refuses, StoppedBy}
-use Rattle.lc_tool.specs.Ends.{Ends, Finished, BrokenBy, Runs, IsFaultless, HasLine, IsLineOf, SameOutputs, BeginsFirst, OpensOnly, no_faults, write_line}
+use Rattle.lc_tool.specs.Ends.{Ends, Finished, BrokenBy, Runs, IsFaultless, HasLine, IsLineOf, SameOutputs, BeginsFirst, OpensOnly, write_line}
 use Rattle.lc_tool.proofs.Keeps.{said_since}
 
 -- ---- what an option says
@@ -219,13 +220,13 @@ by_silent command status course before now h e =
 
 -- the count of a slot that the command writes rose
 abbrev pub SlotFailed : Option Command → Slot → DeskState → DeskState → Type 0
-SlotFailed command slot before now = Contains (slots_of command) slot × Rose (fault_at before.faults slot) (fault_at now.faults slot)
+SlotFailed command slot before now = Contains (slots_of command) slot × Rose (slot_at before.faults.puts slot) (slot_at now.faults.puts slot)
 
-broken_rose : (slots : List Slot) (slot : Slot) (course : Option (Course Work)) (before now : DeskState) → BrokenBy (frame.Write slot) slots course before now → Rose (fault_at before.faults slot) (fault_at now.faults slot)
+broken_rose : (slots : List Slot) (slot : Slot) (course : Option (Course Work)) (before now : DeskState) → BrokenBy (frame.Write slot) slots course before now → Rose (slot_at before.faults.puts slot) (slot_at now.faults.puts slot)
 broken_rose slots slot course before now h =
-    subst (λ s. Rose (fault_at before.faults s) (fault_at now.faults s)) h.broke.1
-    (Rose-since _ _ _ (fault_later (slot_of h.broke.0.refused) before h.start h.began.reads.later)
-    (Rose-until _ _ _ h.broke.0.cause (fault_later (slot_of h.broke.0.refused) h.mid now h.noted.later)))
+    subst (λ s. Rose (slot_at before.faults.puts s) (slot_at now.faults.puts s)) h.broke.1
+    (Rose-since _ _ _ (h.began.reads.later.puts (slot_of h.broke.0.refused))
+    (Rose-until _ _ _ h.broke.0.cause (h.noted.later.puts (slot_of h.broke.0.refused))))
 
 -- a begin or a put of a slot was refused
 pub by_failed : (command : Option Command) (status : Status) (course : Option (Course Work)) (before now : DeskState) → Runs command status course before now → code status ≡ 9 → (slot : Slot) × BrokenBy (frame.Write slot) (slots_of command) course before now × SlotFailed command slot before now
@@ -336,7 +337,7 @@ none_rose : Rose 0 0 → ⊥
 none_rose (inl more) = omega arith
 none_rose (inr last) = omega arith
 
-none_rose_at : (slot : Slot) → Rose (fault_at no_faults slot) (fault_at no_faults slot) → ⊥
+none_rose_at : (slot : Slot) → Rose (slot_at no_faults.puts slot) (slot_at no_faults.puts slot) → ⊥
 none_rose_at Picture rose = none_rose rose
 none_rose_at Bounds rose = none_rose rose
 none_rose_at Report rose = none_rose rose
@@ -346,11 +347,11 @@ steady_reads : (before now : DeskState) → Later before now → IsTrue before.s
 steady_reads before now later steady none rose =
     none_rose (subst (λ f. Rose f.reads 0) none (subst (λ f. Rose before.faults.reads f.reads) (later.no_fault steady ∙ none) rose))
 
-steady_slot : (slot : Slot) (before now : DeskState) → Later before now → IsTrue before.steady → before.faults ≡ no_faults → Rose (fault_at before.faults slot) (fault_at now.faults slot) → ⊥
+steady_slot : (slot : Slot) (before now : DeskState) → Later before now → IsTrue before.steady → before.faults ≡ no_faults → Rose (slot_at before.faults.puts slot) (slot_at now.faults.puts slot) → ⊥
 steady_slot slot before now later steady none rose =
     none_rose_at slot
-    (subst (λ f. Rose (fault_at f slot) (fault_at no_faults slot)) none
-    (subst (λ f. Rose (fault_at before.faults slot) (fault_at f slot)) (later.no_fault steady ∙ none) rose))
+    (subst (λ f. Rose (slot_at f.puts slot) (slot_at no_faults.puts slot)) none
+    (subst (λ f. Rose (slot_at before.faults.puts slot) (slot_at f.puts slot)) (later.no_fault steady ∙ none) rose))
 
 broken_later : (stop : FrameStop) (slots : List Slot) (course : Option (Course Work)) (before now : DeskState) → BrokenBy stop slots course before now → Later before now
 broken_later stop slots course before now h =

@@ -4,7 +4,8 @@ use Rattle.lc_desk.specs.declared.desk.Slot.TheVariants.{Note}
 use Rattle.lc_desk.specs.Causes.{Rose}
 use Rattle.lc_desk.proofs.RoseLemmas.{Rose-since, Rose-until}
 use Rattle.lc_desk.proofs.CallLemmas.{later_then}
-use Rattle.lc_desk.specs.Desk.{DeskState, Files, Told, Later, OnlyReads, with_slot}
+use Rattle.lc_desk.specs.Desk.{DeskState, Files, Told, Later, OnlyReads}
+use Rattle.lc_desk.specs.Slots.{with_slot}
 use Rattle.lc_tool.specs.declared.status.Source.{Source}
 use Rattle.lc_tool.specs.declared.status.Stop.{Stop}
 use Rattle.lc_tool.specs.declared.status.Stop.TheVariants.{Memory, Faulty, Absent, ReadFault, Long, Refuted}
@@ -22,7 +23,7 @@ pub noted_later : (line : List ℕ) (before mid now : DeskState) → OnlyReads b
 noted_later line before mid now reads noted = record {
   later = later_then before mid now reads.later noted.later;
   slots = noted.slots ∙ ap (λ s. with_slot s Note now.slots.note) reads.slots;
-  faults = noted.faults ∙ ap (λ f. with_note f now.faults.reads now.faults.note) reads.faults;
+  faults = noted.faults ∙ ap (λ f. with_note f now.faults.reads now.faults.puts.note) reads.faults;
   begins = noted.begins ∙ reads.begins;
   said = said_since line before mid now (ap (λ s. s.note) reads.slots) reads.later noted.said;
 }

@@ -1,5 +1,5 @@
 -- What `audit` has checked where it is done, and which records it says yes to.
-use Rattle.std.specs.Prelude.{◌≡◌, ◌⊎◌, ℕ, ◌%◌, ◌≤◌, List, All, length, Option, Some, Ok}
+use Rattle.std.specs.Prelude.{◌≡◌, ℕ, ◌%◌, ◌≤◌, List, All, length, Option, Some, Ok}
 use Rattle.lc_desk.specs.Causes.{Rose}
 use Rattle.lc_desk.specs.Desk.{DeskState, Files, appended}
 use Rattle.lc_frame.specs.Frames.{answers_of, header_of, record_text}
@@ -11,7 +11,7 @@ use Rattle.lc_job.specs.declared.job.Job.{Job}
 use Rattle.lc_rated.specs.declared.answer.Answer.{Answer}
 use Rattle.lc_audit.specs.Verdicts.{LineFails, LineHolds, looked_at, verdict}
 use Rattle.lc_audit.specs.declared.verdict.Miss.{Miss}
-use Rattle.lc_audit.specs.declared.verdict.Verdict.TheVariants.{Yes, No}
+use Rattle.lc_audit.specs.declared.verdict.Verdict.TheVariants.{No}
 use Rattle.lc_tool.specs.declared.world.World.{World}
 use Rattle.lc_tool.specs.Lines.{record_limit}
 use Rattle.lc_tool.specs.Outcome.{world_of, yes_line}
@@ -38,9 +38,9 @@ pub record IsAuditOf (words : List (List ℕ)) (held : Option Files) (world : Wo
   pub kept : files world.job.bounds ≡ Some text
 
 -- The bytes are the text of a record with the header of the job and these lines. Each of them whose number the step
--- divides holds: its estimate is within its bound of the sum over all lights, each with its own visibility against every
--- triangle, and its bound is within the job's permille of the estimate unless its size is the job's greatest. Report has
--- gained the number of these lines.
+-- divides holds: its estimate is within its bound of the sum over all lights, each with its own visibility against
+-- every triangle, and its bound is within the job's permille of the estimate unless its size is the job's greatest.
+-- Report has gained the number of these lines.
 pub record AuditHolds (step : ℕ) (world : World) (text : List ℕ) (before now : DeskState) : Type 0 where
   pub lines : List Answer
   pub whole : IsTextOf (header_of world.job) lines text
@@ -64,7 +64,7 @@ pub record IsOwnRecord (world : World) (text : List ℕ) : Type 0 where
 -- no fault of a read and none of Report was counted
 pub record HasNoAuditFault (before now : DeskState) : Type 0 where
   pub reads : ¬ Rose before.faults.reads now.faults.reads
-  pub report : ¬ Rose before.faults.report now.faults.report
+  pub report : ¬ Rose before.faults.puts.report now.faults.puts.report
 
 -- the two files are as they were
 pub record KeepsFiles (before now : DeskState) : Type 0 where

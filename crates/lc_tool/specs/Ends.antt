@@ -2,7 +2,8 @@
 use Rattle.std.specs.Prelude.{◌≡◌, ◌⊎◌, ℕ, ◌+◌, List, ◌++◌, map, Contains, Option, Some, None, IfSome, IfOk}
 use Rattle.lc_desk.specs.Calls.{AreOn, Made, begins_of, slot_of}
 use Rattle.lc_desk.specs.Causes.{Rose}
-use Rattle.lc_desk.specs.Desk.{DeskState, Faults, OnlyReads, fault_at}
+use Rattle.lc_desk.specs.Desk.{DeskState, Files, OnlyReads}
+use Rattle.lc_desk.specs.Slots.{slot_at}
 use Rattle.lc_desk.specs.declared.desk.Slot.{Slot}
 use Rattle.lc_frame.specs.Stops.{StoppedIn}
 use Rattle.lc_frame.specs.declared.stop.FrameStop.{FrameStop}
@@ -10,7 +11,7 @@ use Rattle.lc_frame.specs.declared.stop.FrameStop.TheVariants as frame
 use Rattle.lc_tool.specs.declared.status.Stop.{Stop}
 use Rattle.lc_tool.specs.declared.status.Status.{Status}
 use Rattle.lc_tool.specs.declared.status.Status.TheVariants.{Done, Usage, Stopped, Unwritten}
-use Rattle.lc_tool.specs.Course.{Course}
+use Rattle.lc_tool.specs.Course.{Course, told}
 use Rattle.lc_tool.specs.Lines.{usage_line, memory_line, write_fault_line}
 use Rattle.lc_tool.specs.Noted.{Said, Noted}
 use Rattle.lc_tool.specs.Words.{Command, command_of}
@@ -54,9 +55,14 @@ Ends Usage slots course before now = ⊥
 Ends (Stopped stop) slots course before now = StoppedBy stop course before now
 Ends (Unwritten stop) slots course before now = BrokenBy stop slots course before now
 
+-- the same of a course over the files, where the desk tells them
+abbrev pub EndsAs : Status → List Slot → (Files → Course Work) → DeskState → DeskState → Type 0
+EndsAs status slots course before now = Ends status slots (told course before.held) before now
+
 -- where all is done, the counter has risen by the evaluations
 abbrev pub Counts : Status → Option (Course Work) → ℕ → ℕ → Type 0
-Counts status course steps_before steps_now = status ≡ Done → IfSome course (λ c. IfOk c.end (λ w. steps_now ≡ steps_before + w.evals))
+Counts status course steps_before steps_now =
+    status ≡ Done → IfSome course (λ c. IfOk c.end (λ w. steps_now ≡ steps_before + w.evals))
 
 -- words that are no command: the usage line, and nothing is read
 pub record Rejected (status : Status) (before now : DeskState) : Type 0 where
@@ -85,21 +91,21 @@ Breaks words stop before now = BrokenBy stop (slots_of (command_of words)) (outc
 
 -- the count of faults of a slot that the command writes rose
 abbrev pub HasFailed : List (List ℕ) → Slot → DeskState → DeskState → Type 0
-HasFailed words slot before now = Contains (slots_of (command_of words)) slot × Rose (fault_at before.faults slot) (fault_at now.faults slot)
+HasFailed words slot before now =
+    Contains (slots_of (command_of words)) slot × Rose (slot_at before.faults.puts slot) (slot_at now.faults.puts slot)
 
 -- ---- what follows, by the number
 
 -- no fault of a read or of a slot that the outcome writes was counted
 pub record IsFaultless (course : Course Work) (before now : DeskState) : Type 0 where
   pub reads : ¬ Rose before.faults.reads now.faults.reads
-  pub slots : (slot : Slot) → Contains (map slot_of (calls_of course.end)) slot → ¬ Rose (fault_at before.faults slot) (fault_at now.faults slot)
+  pub slots : (slot : Slot) → Contains (map slot_of (calls_of course.end)) slot → ¬ Rose (slot_at before.faults.puts slot) (slot_at now.faults.puts slot)
 
 -- the status is that of the outcome, or there was no memory
 abbrev pub IsComplete : List (List ℕ) → ℕ → DeskState → DeskState → Type 0
-IsComplete words result before now = (course : Course Work) → outcome words before.held ≡ Some course → IsFaultless course before now → (result ≡ status_of course.end) ⊎ (result ≡ 1)
-
-abbrev pub no_faults : Faults
-no_faults = record { reads = 0; picture = 0; bounds = 0; report = 0; note = 0 }
+IsComplete words result before now =
+    (course : Course Work) → outcome words before.held ≡ Some course → IsFaultless course before now
+    → (result ≡ status_of course.end) ⊎ (result ≡ 1)
 
 -- the form of a status's line
 abbrev pub IsLineOf : Status → List ℕ → Type 0
@@ -131,8 +137,8 @@ pub record BeginsFirst (begins : List (Slot × List ℕ)) (before now : DeskStat
   pub split : begins ≡ first ++ rest
   pub begun : now.begins ≡ before.begins ++ first
 
--- of the files that the course reads the first were read, in order and each once, and of its begins the first were asked
--- for; no other name was read or begun
+-- of the files that the course reads the first were read, in order and each once, and of its begins the first were
+-- asked for; no other name was read or begun
 pub record OpensOnly (before now : DeskState) (course : Course Work) : Type 0 where
   pub reads : ReadsFirst course.reads before now
   pub begins : BeginsFirst (begins_of (calls_of course.end)) before now

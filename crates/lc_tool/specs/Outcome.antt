@@ -1,5 +1,6 @@
 -- What a command answers, by its words and the files.
-use Rattle.std.specs.Prelude.{ℕ, ◌==◌, codes, decimal, Bool, List, [], ◌∷◌, ◌++◌, length, map, slice_index, Option, Some, None, Result, Ok, Err, if◌then◌else◌, nat_lt}
+use Rattle.std.specs.Prelude.{ℕ, ◌==◌, codes, decimal, Bool, List, [], ◌∷◌, ◌++◌, length, map, slice_index, Option}
+use Rattle.std.specs.Prelude.{Some, None, Result, Ok, Err, if◌then◌else◌, nat_lt}
 use Rattle.std.specs.List.{list_any}
 use Rattle.std.specs.Str.{bytes_eq}
 use Rattle.lc_num.specs.Vectors.{zero_vector}
@@ -45,7 +46,8 @@ use Rattle.lc_tool.specs.declared.world.World.{World}
 use Rattle.lc_tool.specs.Status.{source_code}
 use Rattle.lc_tool.specs.Summaries.{summary_line}
 use Rattle.lc_tool.specs.Course.{Course, Refusal, refuses, and_then, at_once, told}
-use Rattle.lc_tool.specs.Lines.{usage_line, absent_line, long_line, fault_line, missing_line, miss_line, file_limit, record_limit}
+use Rattle.lc_tool.specs.Lines.{usage_line, absent_line, long_line, fault_line, missing_line, miss_line, file_limit}
+use Rattle.lc_tool.specs.Lines.{record_limit}
 use Rattle.lc_tool.specs.Work.{Work}
 use Rattle.lc_tool.specs.Words.{Command, probe, render, plain, audit, make, command_of}
 
@@ -84,7 +86,8 @@ mesh_text name text = at_once (unless_faulty source.Scene name (obj.fault_in tex
 
 -- the materials of a library's text, after those before
 abbrev pub library_text : List Material → List ℕ → List ℕ → Course (List Material)
-library_text before name text = at_once (unless_faulty source.Library name (mtl.fault_in (length before) text) (mtl.materials before text))
+library_text before name text =
+    at_once (unless_faulty source.Library name (mtl.fault_in (length before) text) (mtl.materials before text))
 
 -- the lights of a text
 abbrev pub lights_text : List ℕ → ℕ → List ℕ → Course Lights
@@ -107,7 +110,8 @@ library_of before name files = and_then (text_of file_limit name files) (λ text
 -- the materials of libraries, one after another, after those before
 unfoldable pub libraries_of : List (List ℕ) → List Material → Files → Course (List Material)
 libraries_of [] before files = at_once (Ok before)
-libraries_of (name ∷ later) before files = and_then (library_of before name files) (λ items. libraries_of later items files)
+libraries_of (name ∷ later) before files =
+    and_then (library_of before name files) (λ items. libraries_of later items files)
 
 -- the lights of a file
 abbrev pub lights_of : List ℕ → ℕ → Files → Course Lights
@@ -123,7 +127,8 @@ unfoldable pub folder_of : List ℕ → List ℕ
 folder_of [] = []
 folder_of (b ∷ later) = if list_any is_slash (b ∷ later) then b ∷ folder_of later else []
 
--- the file name of a library that a scene names: it is looked for beside the scene, but one that begins with '/' stands alone
+-- the file name of a library that a scene names: it is looked for beside the scene, but one that begins with '/' stands
+-- alone
 unfoldable pub beside : List ℕ → List ℕ → List ℕ
 beside scene library = if slice_index library 0 == 47 then library else folder_of scene ++ library
 
@@ -176,11 +181,13 @@ world_by job mesh items lights = record { job = job; scene = scene_of mesh items
 
 -- with the lights of the job
 abbrev pub lit : Job → Mesh → List Material → Files → Course World
-lit job mesh items files = and_then (lights_of job.lights job.seed files) (λ lights. at_once (Ok (world_by job mesh items lights)))
+lit job mesh items files =
+    and_then (lights_of job.lights job.seed files) (λ lights. at_once (Ok (world_by job mesh items lights)))
 
 -- with the libraries that the mesh names
 abbrev pub furnished : Job → Mesh → Files → Course World
-furnished job mesh files = and_then (libraries_of (map (beside job.scene) mesh.libs) [] files) (λ items. lit job mesh items files)
+furnished job mesh files =
+    and_then (libraries_of (map (beside job.scene) mesh.libs) [] files) (λ items. lit job mesh items files)
 
 -- with the mesh of the job's scene
 abbrev pub built : Job → Files → Course World
@@ -271,7 +278,8 @@ made_lit made job mesh items =
 
 -- with their materials
 abbrev pub made_furnished : Made → Job → Mesh → Course World
-made_furnished made job mesh = and_then (library_text [] (codes "made.mtl") made.mtl) (λ items. made_lit made job mesh items)
+made_furnished made job mesh =
+    and_then (library_text [] (codes "made.mtl") made.mtl) (λ items. made_lit made job mesh items)
 
 -- with their mesh
 abbrev pub made_built : Made → Job → Course World

@@ -29,7 +29,8 @@ pub record ProbeRecorded (name : List ℕ) (place direction : Vec3) (files : Fil
 
 abbrev pub Recorded : Option Command → Files → DeskState → DeskState → ℕ → ℕ → Type 0
 Recorded None files before now steps_before steps_now = Unit {0}
-Recorded (Some (probe name place direction)) files before now steps_before steps_now = ProbeRecorded name place direction files before now steps_before steps_now
+Recorded (Some (probe name place direction)) files before now steps_before steps_now =
+    ProbeRecorded name place direction files before now steps_before steps_now
 Recorded (Some (render name)) files before now steps_before steps_now = Unit {0}
 Recorded (Some (plain_words name)) files before now steps_before steps_now = Unit {0}
 Recorded (Some (audit name step)) files before now steps_before steps_now = Unit {0}
@@ -37,4 +38,5 @@ Recorded (Some (make number)) files before now steps_before steps_now = Unit {0}
 
 -- over a desk that tells its files, the command has left its record
 abbrev pub Records : List (List ℕ) → DeskState → DeskState → ℕ → ℕ → Type 0
-Records words before now steps_before steps_now = IfSome before.held (λ files. Recorded (command_of words) files before now steps_before steps_now)
+Records words before now steps_before steps_now =
+    IfSome before.held (λ files. Recorded (command_of words) files before now steps_before steps_now)

@@ -46,10 +46,11 @@ TellsWorld name files = (world : World) × ((world_of name files).end ≡ Ok wor
 
 -- files tell the world of this job, and hold a file under the name of its record
 abbrev pub TellsRecord : List ℕ → Files → Type 0
-TellsRecord name files = (world : World) × (text : List ℕ) × ((world_of name files).end ≡ Ok world) × (files world.job.bounds ≡ Some text)
+TellsRecord name files =
+    (world : World) × (text : List ℕ) × ((world_of name files).end ≡ Ok world) × (files world.job.bounds ≡ Some text)
 
--- where the words are a command on a job and the desk tells its files, these tell the world of the job, and for `audit` its
--- record; and the texts that `make` makes tell a world
+-- where the words are a command on a job and the desk tells its files, these tell the world of the job, and for `audit`
+-- its record; and the texts that `make` makes tell a world
 abbrev pub HasWorld : Option Command → Option Files → Type 0
 HasWorld None held = Unit {0}
 HasWorld (Some (probe name place direction)) held = Unit {0}
@@ -65,14 +66,15 @@ recorded world = samples (answers_of world.job world.scene)
 -- at each sample the recorded estimate differs from the sum over all lights, each with its own visibility against every
 -- triangle, by at most the recorded bound
 abbrev pub AreNear : World → Type 0
-AreNear world = All (λ ray. IsNear (light_of world.scene ray) (sample_of world.job.cut world.job.permille world.job.rule world.scene ray)) (flat (flat (picture_rays world.job.camera)))
+AreNear world =
+    All (λ ray. IsNear (light_of world.scene ray) (sample_of world.job.cut world.job.permille world.job.rule world.scene ray)) (flat (flat (picture_rays world.job.camera)))
 
 -- at each sample the recorded bound is within the permille of the estimate, unless the cut has the greatest size
 abbrev pub AreFractions : World → Type 0
 AreFractions world = All (λ a. (a.size ≡ world.job.cut) ⊎ IsFraction world.job.permille a) (recorded world)
 
--- each sample took an evaluation for each of its clusters, so at most twice the greatest size, and the counter rose by the sum
--- of all of them
+-- each sample took an evaluation for each of its clusters, so at most twice the greatest size, and the counter rose by
+-- the sum of all of them
 pub record AreCounted (world : World) (steps_before steps_now : ℕ) : Type 0 where
   pub each : All (λ a. a.evals ≤ 2 * world.job.cut) (recorded world)
   pub one : All (λ a. a.evals ≡ a.size) (recorded world)
@@ -80,11 +82,13 @@ pub record AreCounted (world : World) (steps_before steps_now : ℕ) : Type 0 wh
 
 -- the record's file has exactly the record of the answers, under the job's name
 abbrev pub HasRecord : World → DeskState → DeskState → Type 0
-HasRecord world before now = now.slots.bounds ≡ appended (record_text world.job (answers_of world.job world.scene)) (opened world.job.bounds before.slots.bounds)
+HasRecord world before now =
+    now.slots.bounds ≡ appended (record_text world.job (answers_of world.job world.scene)) (opened world.job.bounds before.slots.bounds)
 
 -- the picture's file has exactly the picture of the answers' estimates, under the job's name
 abbrev pub HasPicture : World → DeskState → DeskState → Type 0
-HasPicture world before now = now.slots.picture ≡ appended (picture_text world.job (answers_of world.job world.scene)) (opened world.job.picture before.slots.picture)
+HasPicture world before now =
+    now.slots.picture ≡ appended (picture_text world.job (answers_of world.job world.scene)) (opened world.job.picture before.slots.picture)
 
 -- each file is as it was, or was begun under the job's name and has a first part of those bytes
 pub record LeavesParts (world : World) (before now : DeskState) : Type 0 where
@@ -95,21 +99,24 @@ pub record LeavesParts (world : World) (before now : DeskState) : Type 0 where
 
 -- Report has the line of the answers more
 abbrev pub HasSummary : ℕ → World → DeskState → DeskState → Type 0
-HasSummary number world before now = now.slots.report ≡ appended (summary_line number (recorded world)) before.slots.report
+HasSummary number world before now =
+    now.slots.report ≡ appended (summary_line number (recorded world)) before.slots.report
 
 -- Report has a first part of that line more
 abbrev pub LeavesSummary : ℕ → World → DeskState → DeskState → Type 0
-LeavesSummary number world before now = TookPart (summary_line number (recorded world)) before.slots.report now.slots.report
+LeavesSummary number world before now =
+    TookPart (summary_line number (recorded world)) before.slots.report now.slots.report
 
 -- ---- plain
 
--- the picture's file has exactly the picture of the sums over all lights, each with its own visibility against every triangle,
--- under the job's name
+-- the picture's file has exactly the picture of the sums over all lights, each with its own visibility against every
+-- triangle, under the job's name
 abbrev pub HasPlainPicture : World → DeskState → DeskState → Type 0
-HasPlainPicture world before now = now.slots.picture ≡ appended (plain_picture world.job (plain_lights world.job world.scene)) (opened world.job.picture before.slots.picture)
+HasPlainPicture world before now =
+    now.slots.picture ≡ appended (plain_picture world.job (plain_lights world.job world.scene)) (opened world.job.picture before.slots.picture)
 
--- the picture's file is as it was, or was begun under the job's name and has a first part of those bytes; the record's file
--- and Report are as they were
+-- the picture's file is as it was, or was begun under the job's name and has a first part of those bytes; the record's
+-- file and Report are as they were
 pub record LeavesPlainPart (world : World) (before now : DeskState) : Type 0 where
   pub picture : LeftPart world.job.picture (plain_picture world.job (plain_lights world.job world.scene)) before.slots.picture now.slots.picture
   pub bounds : now.slots.bounds ≡ before.slots.bounds

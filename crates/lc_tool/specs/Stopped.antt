@@ -1,16 +1,17 @@
 -- A stop before anything is written, with its cause.
-use Rattle.std.specs.Prelude.{◌≡◌, ◌⊎◌, ℕ, List, ◌++◌, Contains, Option, IfSome, Ok}
+use Rattle.std.specs.Prelude.{◌≡◌, ◌⊎◌, ℕ, List, ◌++◌, Contains, Option, IfSome, Result, Ok, IfOk, IfErr}
 use Rattle.lc_desk.specs.Causes.{Rose}
-use Rattle.lc_desk.specs.Desk.{DeskState, OnlyReads}
+use Rattle.lc_desk.specs.Desk.{DeskState, Files, OnlyReads}
 use Rattle.lc_job.specs.declared.key.Key.{Key}
 use Rattle.lc_audit.specs.declared.verdict.Miss.{Miss}
 use Rattle.lc_tool.specs.declared.status.Source.{Source}
 use Rattle.lc_tool.specs.declared.status.Source.TheVariants as source
 use Rattle.lc_tool.specs.declared.status.Stop.{Stop}
 use Rattle.lc_tool.specs.declared.status.Stop.TheVariants.{Memory, Faulty, Absent, ReadFault, Long, Refuted}
-use Rattle.lc_tool.specs.Course.{Course, refuses}
+use Rattle.lc_tool.specs.Course.{Course, refuses, told}
 use Rattle.lc_tool.specs.Status.{stop_code}
-use Rattle.lc_tool.specs.Lines.{memory_line, absent_line, read_fault_line, long_line, fault_line, missing_line, miss_line}
+use Rattle.lc_tool.specs.Lines.{memory_line, absent_line, read_fault_line, long_line, fault_line, missing_line}
+use Rattle.lc_tool.specs.Lines.{miss_line}
 use Rattle.lc_tool.specs.Noted.{Noted}
 
 -- ---- what was read
@@ -47,7 +48,8 @@ pub record Went {A : Type 0} (course : Option (Course A)) (a : A) (before now : 
 
 -- a text's first fault, or a required keyword that a job lacks
 abbrev pub IsFaultLine : Source → List ℕ → Type 0
-IsFaultLine source.Job line = (name : List ℕ) × (((n : ℕ) × (kind : ℕ) × (line ≡ fault_line name n kind)) ⊎ ((key : Key) × (line ≡ missing_line name key)))
+IsFaultLine source.Job line =
+    (name : List ℕ) × (((n : ℕ) × (kind : ℕ) × (line ≡ fault_line name n kind)) ⊎ ((key : Key) × (line ≡ missing_line name key)))
 IsFaultLine source.Scene line = (name : List ℕ) × (n : ℕ) × (kind : ℕ) × (line ≡ fault_line name n kind)
 IsFaultLine source.Library line = (name : List ℕ) × (n : ℕ) × (kind : ℕ) × (line ≡ fault_line name n kind)
 IsFaultLine source.Lights line = (name : List ℕ) × (n : ℕ) × (kind : ℕ) × (line ≡ fault_line name n kind)
@@ -103,3 +105,20 @@ pub record StoppedBy {A : Type 0} (stop : Stop) (course : Option (Course A)) (be
   pub cause : HasCause stop before now
   pub told : IfSome course (Refuses stop line before now)
   pub noted : Noted line before now
+
+-- ---- what a step answers
+
+-- it gives what its course gives, where it gives a value
+abbrev pub GoesAs : {A : Type 0} → Result A Stop → Option (Course A) → DeskState → DeskState → Type 0
+GoesAs result course before now = IfOk result (λ a. Went course a before now)
+
+-- it stops by its course, where it stops
+abbrev pub StopsAs : {A B : Type 0} → Result A Stop → Option (Course B) → DeskState → DeskState → Type 0
+StopsAs result course before now = IfErr result (λ stop. StoppedBy stop course before now)
+
+-- the same of a course over the files, where the desk tells them
+abbrev pub ReadsAs : {A : Type 0} → Result A Stop → (Files → Course A) → DeskState → DeskState → Type 0
+ReadsAs result course before now = GoesAs result (told course before.held) before now
+
+abbrev pub StopsReading : {A B : Type 0} → Result A Stop → (Files → Course B) → DeskState → DeskState → Type 0
+StopsReading result course before now = StopsAs result (told course before.held) before now

@@ -1,5 +1,6 @@
 -- The words of the command line, as a command.
-use Rattle.std.specs.Prelude.{ℕ, ◌+◌, ◌==◌, ◌&&◌, ◌||◌, Bool, List, [], length, slice_index_or, Option, Some, None, Result, Ok, Err, ℤ, unsigned_abs, nat_lt, if◌then◌else◌, codes, map}
+use Rattle.std.specs.Prelude.{ℕ, ◌+◌, ◌==◌, ◌&&◌, ◌||◌, Bool, List, [], length, slice_index_or, Option, Some, None}
+use Rattle.std.specs.Prelude.{Result, Ok, Err, ℤ, unsigned_abs, nat_lt, if◌then◌else◌, codes, map}
 use Rattle.std.proofs.Common.{Bor}
 use Rattle.std.specs.Str.{bytes_eq}
 use Rattle.lc_num.specs.declared.vectors.Vec3.{Vec3}
@@ -44,7 +45,8 @@ word_at words k = slice_index_or words k []
 
 -- three words as a vector
 abbrev pub vector_at : List (List ℕ) → ℕ → Option Vec3
-vector_at words k = vector_of (coordinate (word_at words k)) (coordinate (word_at words (k + 1))) (coordinate (word_at words (k + 2)))
+vector_at words k =
+    vector_of (coordinate (word_at words k)) (coordinate (word_at words (k + 1))) (coordinate (word_at words (k + 2)))
 
 -- so many words, and this one first
 abbrev pub begins : List (List ℕ) → List ℕ → ℕ → Bool

@@ -1,13 +1,13 @@
 // The command `audit`.
-ghost use Rattle.std.specs.Prelude.{◌≡◌, ◌≤◌, [], ◌∷◌, IfOk, IfErr, Some};
+ghost use Rattle.std.specs.Prelude.{◌≤◌, [], ◌∷◌, IfOk, Some};
 ghost use Rattle.lc_audit.specs.declared.verdict.Verdict.TheVariants.{Yes};
 ghost use Rattle.lc_desk.specs.declared.desk.Slot.TheVariants.{Report};
 ghost use Rattle.lc_job.specs.Jobs.{IsJob};
 ghost use Rattle.lc_tool.specs.Audited.{AreLinesFor, IsRecord};
 ghost use Rattle.lc_tool.specs.Course.{at_once, told};
-ghost use Rattle.lc_tool.specs.Ends.{Ends};
+ghost use Rattle.lc_tool.specs.Ends.{Ends, EndsAs};
 ghost use Rattle.lc_tool.specs.Outcome.{audit_course, audited, audit_world, judged, record_of, same_header};
-ghost use Rattle.lc_tool.specs.Stopped.{StoppedBy, Went};
+ghost use Rattle.lc_tool.specs.Stopped.{GoesAs, ReadsAs, StopsAs, StopsReading};
 
 use crate::fixed::append;
 use crate::note::{note_fault, note_miss};
@@ -36,9 +36,9 @@ fn compare_header<D: Desk>(
 ) -> Result<Record, Stop>
     requires job { IsJob job.now }
     requires kept { IsRecord kept }
-    ensures went { IfOk result (λ same. Went (Some (same_header name.now job.now kept)) same (D.state desk.old) (D.state desk.new)) }
+    ensures went { GoesAs result (Some (same_header name.now job.now kept)) (D.state desk.old) (D.state desk.new) }
     ensures lines { IfOk result (λ same. AreLinesFor job.now same.lines) }
-    ensures stopped { IfErr result (λ stop. StoppedBy stop (Some (same_header name.now job.now kept)) (D.state desk.old) (D.state desk.new)) }
+    ensures stopped { StopsAs result (Some (same_header name.now job.now kept)) (D.state desk.old) (D.state desk.new) }
 {
     if kept.header == header_of(job) {
         return Ok(kept);
@@ -50,9 +50,9 @@ fn compare_header<D: Desk>(
 /// Reads the record of a job's picture. A refusal is told on Note.
 fn read_kept<D: Desk>(alloc: Global, job: &Job, desk: &mut D) -> Result<Record, Stop>
     requires { IsJob job.now }
-    ensures went { IfOk result (λ kept. Went (told (record_of job.now) (D.state desk.old).held) kept (D.state desk.old) (D.state desk.new)) }
+    ensures went { ReadsAs result (record_of job.now) (D.state desk.old) (D.state desk.new) }
     ensures lines { IfOk result (λ kept. AreLinesFor job.now kept.lines) }
-    ensures stopped { IfErr result (λ stop. StoppedBy stop (told (record_of job.now) (D.state desk.old).held) (D.state desk.old) (D.state desk.new)) }
+    ensures stopped { StopsReading result (record_of job.now) (D.state desk.old) (D.state desk.new) }
 {
     let kept = read_record_file(alloc, job.bounds.as_str(), desk)?;
     compare_header(job.bounds.as_str(), job, kept, desk)
@@ -93,7 +93,7 @@ fn judge<D: Desk>(world: &World, kept: &Record, step: u64, desk: &mut D) -> Stat
 fn audit_record<D: Desk>(alloc: Global, world: &World, step: u64, desk: &mut D) -> Status
     requires job { IsJob world.now.job }
     requires step { 1 ≤ step }
-    ensures { Ends result (Report ∷ []) (told (audit_world step world.now) (D.state desk.old).held) (D.state desk.old) (D.state desk.new) }
+    ensures { EndsAs result (Report ∷ []) (audit_world step world.now) (D.state desk.old) (D.state desk.new) }
 {
     match read_kept(alloc, &world.job, desk) {
         Ok(kept) => judge(world, &kept, step, desk),
@@ -101,11 +101,11 @@ fn audit_record<D: Desk>(alloc: Global, world: &World, step: u64, desk: &mut D) 
     }
 }
 
-/// Audits the record of a job's file: computes the sum over all lights at each sample whose number the step divides, and says
-/// whether what its line tells of it holds.
+/// Audits the record of a job's file: computes the sum over all lights at each sample whose number the step divides,
+/// and says whether what its line tells of it holds.
 pub fn audit<D: Desk>(alloc: Global, name: &str, step: u64, desk: &mut D) -> Status
     requires { 1 ≤ step }
-    ensures ends { Ends result (Report ∷ []) (told (audit_course name.now step) (D.state desk.old).held) (D.state desk.old) (D.state desk.new) }
+    ensures ends { EndsAs result (Report ∷ []) (audit_course name.now step) (D.state desk.old) (D.state desk.new) }
 {
     match read_world(alloc, name, desk) {
         Ok(world) => audit_record(alloc, &world, step, desk),

@@ -1,11 +1,11 @@
 // The command `make`.
-ghost use Rattle.std.specs.Prelude.{◌≡◌, ◌≤◌, IfOk, IfErr, Ok, Some};
+ghost use Rattle.std.specs.Prelude.{◌≤◌, IfOk, Ok, Some};
 ghost use Rattle.lc_job.specs.Jobs.{IsJob};
 ghost use Rattle.lc_make.specs.Made.{AreShort};
 ghost use Rattle.lc_tool.specs.Course.{at_once};
 ghost use Rattle.lc_tool.specs.Ends.{Counts, Ends};
 ghost use Rattle.lc_tool.specs.Outcome.{made_files, made_world, make_course, make_work};
-ghost use Rattle.lc_tool.specs.Stopped.{StoppedBy, Went};
+ghost use Rattle.lc_tool.specs.Stopped.{GoesAs, StopsAs};
 
 use crate::note::note_memory;
 use crate::parse::{parse_job, parse_library, parse_lights, parse_scene};
@@ -24,9 +24,9 @@ use std::sync::ledger::Ledger;
 /// The world of made texts, which stand in the place of files. A refusal is told on Note.
 fn made_world<D: Desk>(alloc: Global, made: &Made, desk: &mut D) -> Result<World, Stop>
     requires { AreShort made.now }
-    ensures went { IfOk result (λ world. Went (Some (made_world made.now)) world (D.state desk.old) (D.state desk.new)) }
+    ensures went { GoesAs result (Some (made_world made.now)) (D.state desk.old) (D.state desk.new) }
     ensures valid { IfOk result (λ world. IsJob world.job) }
-    ensures stopped { IfErr result (λ stop. StoppedBy stop (Some (made_world made.now)) (D.state desk.old) (D.state desk.new)) }
+    ensures stopped { StopsAs result (Some (made_world made.now)) (D.state desk.old) (D.state desk.new) }
 {
     let job = parse_job(alloc, "made.txt", made.job.as_slice(), desk)?;
     let mesh = parse_scene(alloc, "made.obj", made.obj.as_slice(), desk)?;
@@ -45,7 +45,8 @@ fn write_made<D: Desk, L: Ledger>(
     steps: &mut Steps<L>,
 ) -> Status
     requires { IsJob world.now.job }
-    ensures ends { Ends result made_files (Some (at_once (Ok (make_work number world.now)))) (D.state desk.old) (D.state desk.new) }
+    ensures ends { Ends result made_files (Some (at_once (Ok (make_work number world.now))))
+        (D.state desk.old) (D.state desk.new) }
     ensures counted { Counts result (Some (at_once (Ok (make_work number world.now)))) steps.old steps.new }
 {
     let summary = match render_rows(alloc, &world.scene, &world.job, desk, steps) {

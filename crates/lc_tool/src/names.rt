@@ -16,8 +16,8 @@ fn folder_of(name: &str) -> &str
     }
 }
 
-/// The file name of a library that a scene names: it is looked for beside the scene, but one that begins with `/` stands
-/// alone.
+/// The file name of a library that a scene names: it is looked for beside the scene, but one that begins with `/`
+/// stands alone.
 #[tactic(auto, unfolding(crate::specs::Outcome::beside))]
 pub fn beside(alloc: Global, scene: &str, library: &str) -> Result<String, Memory>
     ensures { IfOk result (λ name. string_bytes name ≡ beside scene.now library.now) }

@@ -1,6 +1,7 @@
 // Lines on Note, put in two pieces without taking memory.
 ghost use Rattle.std.specs.Prelude.{◌≡◌, ◌++◌};
-ghost use Rattle.lc_tool.specs.Lines.{memory_line, usage_line, absent_line, read_fault_line, long_line, fault_line, missing_line, miss_line, miss_words, slot_word, write_fault_line};
+ghost use Rattle.lc_tool.specs.Lines.{memory_line, usage_line, absent_line, read_fault_line, long_line, fault_line};
+ghost use Rattle.lc_tool.specs.Lines.{missing_line, miss_line, miss_words, slot_word, write_fault_line};
 ghost use Rattle.lc_tool.specs.Noted.{Noted};
 ghost use Rattle.lc_tool.specs.Stopped.{NoReadCounted};
 

@@ -1,5 +1,5 @@
 // Texts under the names by which they were asked for, and the lines on Note where one is refused.
-ghost use Rattle.std.specs.Prelude.{◌≡◌, ◌≤◌, Some, length, IfOk, IfErr, OnOk};
+ghost use Rattle.std.specs.Prelude.{◌≤◌, Some, length, IfOk, OnOk};
 ghost use Rattle.lc_light.specs.Lights.{AreLights};
 ghost use Rattle.lc_mtl.specs.Materials.{AreMaterials};
 ghost use Rattle.lc_obj.specs.Meshes.{IsMesh};
@@ -7,7 +7,7 @@ ghost use Rattle.lc_job.specs.Jobs.{IsJob};
 ghost use Rattle.lc_tool.specs.Audited.{IsRecord};
 ghost use Rattle.lc_tool.specs.Lines.{file_limit, record_limit};
 ghost use Rattle.lc_tool.specs.Outcome.{job_text, kept_text, library_text, lights_text, mesh_text};
-ghost use Rattle.lc_tool.specs.Stopped.{StoppedBy, Went};
+ghost use Rattle.lc_tool.specs.Stopped.{GoesAs, StopsAs, Went};
 
 use crate::note::{note_fault, note_memory, note_missing};
 use crate::status::{Source, Stop};
@@ -22,9 +22,9 @@ use std::alloc::Global;
 /// The job of a text. A refusal is told on Note.
 pub fn parse_job<D: Desk>(alloc: Global, name: &str, text: &[u8], desk: &mut D) -> Result<Job, Stop>
     requires { length text.now ≤ file_limit }
-    ensures went { IfOk result (λ job. Went (Some (job_text name.now text.now)) job (D.state desk.old) (D.state desk.new)) }
+    ensures went { GoesAs result (Some (job_text name.now text.now)) (D.state desk.old) (D.state desk.new) }
     ensures valid { IfOk result IsJob }
-    ensures stopped { IfErr result (λ stop. StoppedBy stop (Some (job_text name.now text.now)) (D.state desk.old) (D.state desk.new)) }
+    ensures stopped { StopsAs result (Some (job_text name.now text.now)) (D.state desk.old) (D.state desk.new) }
 {
     match read_job(alloc, text) {
         Ok(job) => Ok(job),
@@ -51,9 +51,9 @@ pub fn parse_scene<D: Desk>(
     desk: &mut D,
 ) -> Result<Mesh, Stop>
     requires { length text.now ≤ file_limit }
-    ensures went { IfOk result (λ mesh. Went (Some (mesh_text name.now text.now)) mesh (D.state desk.old) (D.state desk.new)) }
+    ensures went { GoesAs result (Some (mesh_text name.now text.now)) (D.state desk.old) (D.state desk.new) }
     ensures valid { IfOk result IsMesh }
-    ensures stopped { IfErr result (λ stop. StoppedBy stop (Some (mesh_text name.now text.now)) (D.state desk.old) (D.state desk.new)) }
+    ensures stopped { StopsAs result (Some (mesh_text name.now text.now)) (D.state desk.old) (D.state desk.new) }
 {
     match read_obj(alloc, text) {
         Ok(mesh) => Ok(mesh),
@@ -78,9 +78,11 @@ pub fn parse_library<D: Desk>(
 ) -> Result<(), Stop>
     requires short { length text.now ≤ file_limit }
     requires materials { AreMaterials materials.old.items }
-    ensures went { OnOk result (Went (Some (library_text materials.old.items name.now text.now)) materials.new.items (D.state desk.old) (D.state desk.new)) }
+    ensures went { OnOk result (Went (Some (library_text materials.old.items name.now text.now)) materials.new.items
+        (D.state desk.old) (D.state desk.new)) }
     ensures valid { AreMaterials materials.new.items }
-    ensures stopped { IfErr result (λ stop. StoppedBy stop (Some (library_text materials.old.items name.now text.now)) (D.state desk.old) (D.state desk.new)) }
+    ensures stopped { StopsAs result (Some (library_text materials.old.items name.now text.now))
+        (D.state desk.old) (D.state desk.new) }
 {
     match read_mtl(alloc, text, materials) {
         Ok(()) => Ok(()),
@@ -104,9 +106,9 @@ pub fn parse_lights<D: Desk>(
     desk: &mut D,
 ) -> Result<Lights, Stop>
     requires { length text.now ≤ file_limit }
-    ensures went { IfOk result (λ lights. Went (Some (lights_text name.now seed text.now)) lights (D.state desk.old) (D.state desk.new)) }
+    ensures went { GoesAs result (Some (lights_text name.now seed text.now)) (D.state desk.old) (D.state desk.new) }
     ensures valid { IfOk result AreLights }
-    ensures stopped { IfErr result (λ stop. StoppedBy stop (Some (lights_text name.now seed text.now)) (D.state desk.old) (D.state desk.new)) }
+    ensures stopped { StopsAs result (Some (lights_text name.now seed text.now)) (D.state desk.old) (D.state desk.new) }
 {
     match read_lights(alloc, text, seed) {
         Ok(lights) => Ok(lights),
@@ -129,9 +131,9 @@ pub fn parse_record<D: Desk>(
     desk: &mut D,
 ) -> Result<Record, Stop>
     requires { length text.now ≤ record_limit }
-    ensures went { IfOk result (λ kept. Went (Some (kept_text name.now text.now)) kept (D.state desk.old) (D.state desk.new)) }
+    ensures went { GoesAs result (Some (kept_text name.now text.now)) (D.state desk.old) (D.state desk.new) }
     ensures valid { IfOk result IsRecord }
-    ensures stopped { IfErr result (λ stop. StoppedBy stop (Some (kept_text name.now text.now)) (D.state desk.old) (D.state desk.new)) }
+    ensures stopped { StopsAs result (Some (kept_text name.now text.now)) (D.state desk.old) (D.state desk.new) }
 {
     match read_record(alloc, text) {
         Ok(kept) => Ok(kept),

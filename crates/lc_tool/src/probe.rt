@@ -7,7 +7,7 @@ ghost use Rattle.lc_desk.specs.declared.desk.Slot.TheVariants.{Report};
 ghost use Rattle.lc_record.specs.Record.{IsSample};
 ghost use Rattle.lc_tool.specs.Course.{at_once, told};
 ghost use Rattle.lc_tool.specs.Outcome.{probe_spot, probe_answer, probe_course, probe_work};
-ghost use Rattle.lc_tool.specs.Ends.{Ends, Counts};
+ghost use Rattle.lc_tool.specs.Ends.{Ends, Counts, EndsAs};
 
 use crate::note::note_memory;
 use crate::read::read_light_file;
@@ -79,7 +79,8 @@ fn answer_at<L: Ledger>(
 /// Puts the record line of an answer on Report.
 fn report<D: Desk>(answer: &Answer, desk: &mut D) -> Status
     requires { IsSample 65_536 answer.now }
-    ensures { Ends result (Report ∷ []) (Some (at_once (Ok (probe_work answer.now)))) (D.state desk.old) (D.state desk.new) }
+    ensures { Ends result (Report ∷ []) (Some (at_once (Ok (probe_work answer.now))))
+        (D.state desk.old) (D.state desk.new) }
 {
     let mut line = Line::new();
     line_text(answer, &mut line);
@@ -100,8 +101,10 @@ pub fn probe<D: Desk, L: Ledger>(
 ) -> Status
     requires place { Within 50_000_000 place }
     requires direction { Within 50_000_000 direction }
-    ensures ends { Ends result (Report ∷ []) (told (probe_course name.now place direction) (D.state desk.old).held) (D.state desk.old) (D.state desk.new) }
-    ensures counted { Counts result (told (probe_course name.now place direction) (D.state desk.old).held) steps.old steps.new }
+    ensures ends { EndsAs result (Report ∷ []) (probe_course name.now place direction)
+        (D.state desk.old) (D.state desk.new) }
+    ensures counted { Counts result (told (probe_course name.now place direction) (D.state desk.old).held)
+        steps.old steps.new }
 {
     let lights = match read_light_file(alloc, name, 0, desk) {
         Ok(lights) => lights,

@@ -1,5 +1,6 @@
 // The call of the program.
 ghost use Rattle.std.specs.Prelude.{◌≡◌, ◌⊎◌, ◌≤◌, ℕ, List as Items, None, Some, ◌↔◌, IfSome, IsTrue};
+ghost use Rattle.lc_desk.specs.Desk.{no_faults};
 ghost use Rattle.lc_desk.specs.declared.desk.Slot.{Slot};
 ghost use Rattle.lc_frame.specs.declared.stop.FrameStop.TheVariants as frame;
 ghost use Rattle.lc_tool.specs.declared.status.Source.{Source};
@@ -8,10 +9,13 @@ ghost use Rattle.lc_tool.specs.declared.world.World.{World};
 ghost use Rattle.lc_tool.specs.Words.{audit as audit_words, make as make_words, command_of, texts};
 ghost use Rattle.lc_tool.specs.Status.{source_code};
 ghost use Rattle.lc_tool.specs.Outcome.{outcome};
-ghost use Rattle.lc_tool.specs.Ends.{Runs, Counts, Does, Stops, Breaks, HasFailed, HasLine, SameOutputs, IsComplete, OpensOnly, no_faults};
+ghost use Rattle.lc_tool.specs.Ends.{Runs, Counts, Does, Stops, Breaks, HasFailed, HasLine, SameOutputs, IsComplete};
+ghost use Rattle.lc_tool.specs.Ends.{OpensOnly};
 ghost use Rattle.lc_tool.specs.Probed.{Records};
 ghost use Rattle.lc_tool.specs.Audited.{AuditFails, AuditHolds, HasNoAuditFault, IsAuditOf, IsOwnRecord, KeepsFiles};
-ghost use Rattle.lc_tool.specs.Rendered.{AreCounted, AreFractions, AreNear, HasPicture, HasPlainPicture, HasRecord, HasSummary, HasWorld, IsMakeOf, IsPlainOf, IsRenderOf, LeavesParts, LeavesPlainPart, LeavesSummary, Renders};
+ghost use Rattle.lc_tool.specs.Rendered.{AreCounted, AreFractions, AreNear, HasPicture, HasPlainPicture, HasRecord};
+ghost use Rattle.lc_tool.specs.Rendered.{HasSummary, HasWorld, IsMakeOf, IsPlainOf, IsRenderOf, LeavesParts};
+ghost use Rattle.lc_tool.specs.Rendered.{LeavesPlainPart, LeavesSummary, Renders};
 
 use crate::audit::audit;
 use crate::make::make;
@@ -32,7 +36,8 @@ fn attempt<D: Desk, L: Ledger>(
     desk: &mut D,
     steps: &mut Steps<L>,
 ) -> Status
-    ensures runs { Runs (command_of (texts words.now)) result (outcome (texts words.now) (D.state desk.old).held) (D.state desk.old) (D.state desk.new) }
+    ensures runs { Runs (command_of (texts words.now)) result (outcome (texts words.now) (D.state desk.old).held)
+        (D.state desk.old) (D.state desk.new) }
     ensures counted { Counts result (outcome (texts words.now) (D.state desk.old).held) steps.old steps.new }
 {
     match read_words(words) {
@@ -65,13 +70,15 @@ pub fn run<D: Desk, L: Ledger>(
     ensures recorded { result ≡ 0 →
         Records (texts words.now) (D.state desk.old) (D.state desk.new) steps.old steps.new }
 
-    // Where `render` is done over a desk that tells its files, they tell a world of its job; where `make` is done, over every
-    // desk, its made texts tell one. At each sample of the picture the recorded estimate is within the recorded bound of the
-    // sum over all lights; the bound is within the job's permille of the estimate unless the cut has the job's greatest size;
-    // the evaluations are counted, at most twice that size at each sample; the record's file is exactly the record of these
-    // answers, and the picture's file exactly their tone mapping.
-    ensures near { result ≡ 0 → (world : World) → Renders (texts words.now) (D.state desk.old).held world → AreNear world }
-    ensures fraction { result ≡ 0 → (world : World) → Renders (texts words.now) (D.state desk.old).held world → AreFractions world }
+    // Where `render` is done over a desk that tells its files, they tell a world of its job; where `make` is done, over
+    // every desk, its made texts tell one. At each sample of the picture the recorded estimate is within the recorded
+    // bound of the sum over all lights; the bound is within the job's permille of the estimate unless the cut has the
+    // job's greatest size; the evaluations are counted, at most twice that size at each sample; the record's file is
+    // exactly the record of these answers, and the picture's file exactly their tone mapping.
+    ensures near { result ≡ 0 → (world : World) →
+        Renders (texts words.now) (D.state desk.old).held world → AreNear world }
+    ensures fraction { result ≡ 0 → (world : World) →
+        Renders (texts words.now) (D.state desk.old).held world → AreFractions world }
     ensures counted { result ≡ 0 → (world : World) → Renders (texts words.now) (D.state desk.old).held world →
         AreCounted world steps.old steps.new }
     ensures record { result ≡ 0 → (world : World) → Renders (texts words.now) (D.state desk.old).held world →
@@ -80,13 +87,13 @@ pub fn run<D: Desk, L: Ledger>(
         HasPicture world (D.state desk.old) (D.state desk.new) }
     ensures world { result ≡ 0 → HasWorld (command_of (texts words.now)) (D.state desk.old).held }
 
-    // Where `plain` is done over a desk that tells its files, the picture's file is exactly the tone mapping of the sums over
-    // all lights.
+    // Where `plain` is done over a desk that tells its files, the picture's file is exactly the tone mapping of the
+    // sums over all lights.
     ensures plain { result ≡ 0 → (world : World) → IsPlainOf (texts words.now) (D.state desk.old).held world →
         HasPlainPicture world (D.state desk.old) (D.state desk.new) }
 
-    // Whatever the status, each of the two files of `render` and `make` is as it was, or was begun under the job's name and
-    // has a first part of those bytes.
+    // Whatever the status, each of the two files of `render` and `make` is as it was, or was begun under the job's name
+    // and has a first part of those bytes.
     ensures parts { (world : World) → Renders (texts words.now) (D.state desk.old).held world →
         LeavesParts world (D.state desk.old) (D.state desk.new) }
     ensures report { (world : World) → IsRenderOf (texts words.now) (D.state desk.old).held world →
@@ -102,10 +109,10 @@ pub fn run<D: Desk, L: Ledger>(
     ensures made { (number : ℕ) → command_of (texts words.now) ≡ Some (make_words number) →
         ¬ (result ≡ 7) × ¬ (result ≡ 8) × ¬ (result ≡ 10) }
 
-    // Where `audit` is done over a desk that tells its files, the file of the job's record is the text of a record with the
-    // job's header, and each line whose number the step divides holds by the sum over all lights. 11 comes only where one of
-    // these lines does not. Over the record that a render of the same files writes it is done, or there was no memory, unless a
-    // fault is counted. It writes neither of the two files.
+    // Where `audit` is done over a desk that tells its files, the file of the job's record is the text of a record with
+    // the job's header, and each line whose number the step divides holds by the sum over all lights. 11 comes only
+    // where one of these lines does not. Over the record that a render of the same files writes it is done, or there
+    // was no memory, unless a fault is counted. It writes neither of the two files.
     ensures audit_yes { result ≡ 0 → (world : World) → (text : Items ℕ) →
         (a : IsAuditOf (texts words.now) (D.state desk.old).held world text) →
         AuditHolds a.step world text (D.state desk.old) (D.state desk.new) }
@@ -128,9 +135,9 @@ pub fn run<D: Desk, L: Ledger>(
     // 2 comes exactly where the words are no command.
     ensures usage { (result ≡ 2) ↔ (command_of (texts words.now) ≡ None) }
 
-    // 3 to 6 and 12 come only where the text is reached and has a fault or is of another job, 11 only where the verdict on a
-    // record is reached and is no, 7 and 10 only where the file is absent or too long and
-    // a count rose, 8 only where a count rose, for a file that is reached.
+    // 3 to 6 and 12 come only where the text is reached and has a fault or is of another job, 11 only where the verdict
+    // on a record is reached and is no, 7 and 10 only where the file is absent or too long and a count rose, 8 only
+    // where a count rose, for a file that is reached.
     ensures faulty { (text : Source) → result ≡ source_code text →
         Stops (texts words.now) (stop.Faulty text) (D.state desk.old) (D.state desk.new) }
     ensures absent { result ≡ 7 →

@@ -1,13 +1,14 @@
 // Reads of files, and the lines on Note where one is refused.
-ghost use Rattle.std.specs.Prelude.{◌≡◌, ◌≤◌, [], length, map, IfOk, IfErr, OnOk};
+ghost use Rattle.std.specs.Prelude.{◌≤◌, [], length, map, IfOk, OnOk};
 ghost use Rattle.lc_light.specs.Lights.{AreLights};
 ghost use Rattle.lc_mtl.specs.Materials.{AreMaterials};
 ghost use Rattle.lc_obj.specs.Meshes.{IsMesh};
 ghost use Rattle.lc_job.specs.Jobs.{IsJob};
 ghost use Rattle.lc_tool.specs.Audited.{IsRecord};
 ghost use Rattle.lc_tool.specs.Course.{told};
-ghost use Rattle.lc_tool.specs.Outcome.{beside as beside_name, job_of, kept_of, libraries_of, library_of, lights_of, mesh_of, text_of};
-ghost use Rattle.lc_tool.specs.Stopped.{StoppedBy, Went};
+ghost use Rattle.lc_tool.specs.Outcome.{beside as beside_name, job_of, kept_of, libraries_of, library_of, lights_of};
+ghost use Rattle.lc_tool.specs.Outcome.{mesh_of, text_of};
+ghost use Rattle.lc_tool.specs.Stopped.{ReadsAs, StopsReading, Went};
 
 use crate::names::beside;
 use crate::note::{note_absent, note_long, note_memory, note_read_fault};
@@ -35,9 +36,10 @@ pub fn read_text<D: Desk>(
     limit: u64,
     desk: &mut D,
 ) -> Result<Vec<u8>, Stop>
-    ensures went { IfOk result (λ text. Went (told (text_of limit name.now) (D.state desk.old).held) text.items (D.state desk.old) (D.state desk.new)) }
+    ensures went { IfOk result (λ text. Went (told (text_of limit name.now) (D.state desk.old).held) text.items
+        (D.state desk.old) (D.state desk.new)) }
     ensures short { IfOk result (λ text. length text.items ≤ limit) }
-    ensures stopped { IfErr result (λ stop. StoppedBy stop (told (text_of limit name.now) (D.state desk.old).held) (D.state desk.old) (D.state desk.new)) }
+    ensures stopped { StopsReading result (text_of limit name.now) (D.state desk.old) (D.state desk.new) }
 {
     let mut text = Vec::new(alloc);
     match desk.read(name, limit, &mut text) {
@@ -63,9 +65,9 @@ pub fn read_text<D: Desk>(
 
 /// Reads the job of a file. A refusal is told on Note.
 pub fn read_job_file<D: Desk>(alloc: Global, name: &str, desk: &mut D) -> Result<Job, Stop>
-    ensures went { IfOk result (λ job. Went (told (job_of name.now) (D.state desk.old).held) job (D.state desk.old) (D.state desk.new)) }
+    ensures went { ReadsAs result (job_of name.now) (D.state desk.old) (D.state desk.new) }
     ensures valid { IfOk result IsJob }
-    ensures stopped { IfErr result (λ stop. StoppedBy stop (told (job_of name.now) (D.state desk.old).held) (D.state desk.old) (D.state desk.new)) }
+    ensures stopped { StopsReading result (job_of name.now) (D.state desk.old) (D.state desk.new) }
 {
     let text = read_text(alloc, name, FILE_LIMIT, desk)?;
     parse_job(alloc, name, &text, desk)
@@ -73,9 +75,9 @@ pub fn read_job_file<D: Desk>(alloc: Global, name: &str, desk: &mut D) -> Result
 
 /// Reads the mesh of a file. A refusal is told on Note.
 pub fn read_scene_file<D: Desk>(alloc: Global, name: &str, desk: &mut D) -> Result<Mesh, Stop>
-    ensures went { IfOk result (λ mesh. Went (told (mesh_of name.now) (D.state desk.old).held) mesh (D.state desk.old) (D.state desk.new)) }
+    ensures went { ReadsAs result (mesh_of name.now) (D.state desk.old) (D.state desk.new) }
     ensures valid { IfOk result IsMesh }
-    ensures stopped { IfErr result (λ stop. StoppedBy stop (told (mesh_of name.now) (D.state desk.old).held) (D.state desk.old) (D.state desk.new)) }
+    ensures stopped { StopsReading result (mesh_of name.now) (D.state desk.old) (D.state desk.new) }
 {
     let text = read_text(alloc, name, FILE_LIMIT, desk)?;
     parse_scene(alloc, name, &text, desk)
@@ -89,9 +91,12 @@ fn read_library<D: Desk>(
     desk: &mut D,
 ) -> Result<(), Stop>
     requires { AreMaterials materials.old.items }
-    ensures went { OnOk result (Went (told (library_of materials.old.items name.now) (D.state desk.old).held) materials.new.items (D.state desk.old) (D.state desk.new)) }
+    ensures went { OnOk result (Went
+        (told (library_of materials.old.items name.now) (D.state desk.old).held) materials.new.items
+        (D.state desk.old) (D.state desk.new)) }
     ensures valid { AreMaterials materials.new.items }
-    ensures stopped { IfErr result (λ stop. StoppedBy stop (told (library_of materials.old.items name.now) (D.state desk.old).held) (D.state desk.old) (D.state desk.new)) }
+    ensures stopped { StopsReading result (library_of materials.old.items name.now)
+        (D.state desk.old) (D.state desk.new) }
 {
     let text = read_text(alloc, name, FILE_LIMIT, desk)?;
     parse_library(alloc, name, &text, materials, desk)
@@ -106,9 +111,12 @@ fn read_library_beside<D: Desk>(
     desk: &mut D,
 ) -> Result<(), Stop>
     requires { AreMaterials materials.old.items }
-    ensures went { OnOk result (Went (told (library_of materials.old.items (beside_name scene.now library.now)) (D.state desk.old).held) materials.new.items (D.state desk.old) (D.state desk.new)) }
+    ensures went { OnOk result (Went
+        (told (library_of materials.old.items (beside_name scene.now library.now)) (D.state desk.old).held) materials.new.items
+        (D.state desk.old) (D.state desk.new)) }
     ensures valid { AreMaterials materials.new.items }
-    ensures stopped { IfErr result (λ stop. StoppedBy stop (told (library_of materials.old.items (beside_name scene.now library.now)) (D.state desk.old).held) (D.state desk.old) (D.state desk.new)) }
+    ensures stopped { StopsReading result (library_of materials.old.items (beside_name scene.now library.now))
+        (D.state desk.old) (D.state desk.new) }
 {
     match beside(alloc, scene, library) {
         Ok(name) => read_library(alloc, name.as_str(), materials, desk),
@@ -126,9 +134,12 @@ pub fn read_libraries<D: Desk>(
     libraries: &[Name],
     desk: &mut D,
 ) -> Result<Materials, Stop>
-    ensures went { IfOk result (λ materials. Went (told (libraries_of (map (beside_name scene.now) libraries.now) []) (D.state desk.old).held) materials.items (D.state desk.old) (D.state desk.new)) }
+    ensures went { IfOk result (λ materials. Went
+        (told (libraries_of (map (beside_name scene.now) libraries.now) []) (D.state desk.old).held) materials.items
+        (D.state desk.old) (D.state desk.new)) }
     ensures valid { IfOk result (λ materials. AreMaterials materials.items) }
-    ensures stopped { IfErr result (λ stop. StoppedBy stop (told (libraries_of (map (beside_name scene.now) libraries.now) []) (D.state desk.old).held) (D.state desk.old) (D.state desk.new)) }
+    ensures stopped { StopsReading result (libraries_of (map (beside_name scene.now) libraries.now) [])
+        (D.state desk.old) (D.state desk.new) }
 {
     let mut materials = Materials::new(alloc);
     for library in libraries {
@@ -144,9 +155,9 @@ pub fn read_light_file<D: Desk>(
     seed: u64,
     desk: &mut D,
 ) -> Result<Lights, Stop>
-    ensures went { IfOk result (λ lights. Went (told (lights_of name.now seed) (D.state desk.old).held) lights (D.state desk.old) (D.state desk.new)) }
+    ensures went { ReadsAs result (lights_of name.now seed) (D.state desk.old) (D.state desk.new) }
     ensures valid { IfOk result AreLights }
-    ensures stopped { IfErr result (λ stop. StoppedBy stop (told (lights_of name.now seed) (D.state desk.old).held) (D.state desk.old) (D.state desk.new)) }
+    ensures stopped { StopsReading result (lights_of name.now seed) (D.state desk.old) (D.state desk.new) }
 {
     let text = read_text(alloc, name, FILE_LIMIT, desk)?;
     parse_lights(alloc, name, seed, &text, desk)
@@ -154,9 +165,9 @@ pub fn read_light_file<D: Desk>(
 
 /// Reads the record of a file. A refusal is told on Note.
 pub fn read_record_file<D: Desk>(alloc: Global, name: &str, desk: &mut D) -> Result<Record, Stop>
-    ensures went { IfOk result (λ kept. Went (told (kept_of name.now) (D.state desk.old).held) kept (D.state desk.old) (D.state desk.new)) }
+    ensures went { ReadsAs result (kept_of name.now) (D.state desk.old) (D.state desk.new) }
     ensures valid { IfOk result IsRecord }
-    ensures stopped { IfErr result (λ stop. StoppedBy stop (told (kept_of name.now) (D.state desk.old).held) (D.state desk.old) (D.state desk.new)) }
+    ensures stopped { StopsReading result (kept_of name.now) (D.state desk.old) (D.state desk.new) }
 {
     let text = read_text(alloc, name, RECORD_LIMIT, desk)?;
     parse_record(alloc, name, &text, desk)

@@ -1,9 +1,9 @@
 // The command `render`.
-ghost use Rattle.std.specs.Prelude.{◌≡◌, Ok, Some};
+ghost use Rattle.std.specs.Prelude.{Ok, Some};
 ghost use Rattle.lc_job.specs.Jobs.{IsJob};
 ghost use Rattle.lc_frame.specs.Files.{files};
 ghost use Rattle.lc_tool.specs.Course.{at_once, told};
-ghost use Rattle.lc_tool.specs.Ends.{Counts, Ends};
+ghost use Rattle.lc_tool.specs.Ends.{Counts, Ends, EndsAs};
 ghost use Rattle.lc_tool.specs.Outcome.{render_course, render_work};
 
 use crate::status::Status;
@@ -23,7 +23,8 @@ fn write_frame<D: Desk, L: Ledger>(
     steps: &mut Steps<L>,
 ) -> Status
     requires { IsJob world.now.job }
-    ensures ends { Ends result files (Some (at_once (Ok (render_work world.now)))) (D.state desk.old) (D.state desk.new) }
+    ensures ends { Ends result files (Some (at_once (Ok (render_work world.now))))
+        (D.state desk.old) (D.state desk.new) }
     ensures counted { Counts result (Some (at_once (Ok (render_work world.now)))) steps.old steps.new }
 {
     match render_rows(alloc, &world.scene, &world.job, desk, steps) {
@@ -39,7 +40,7 @@ pub fn render<D: Desk, L: Ledger>(
     desk: &mut D,
     steps: &mut Steps<L>,
 ) -> Status
-    ensures ends { Ends result files (told (render_course name.now) (D.state desk.old).held) (D.state desk.old) (D.state desk.new) }
+    ensures ends { EndsAs result files (render_course name.now) (D.state desk.old) (D.state desk.new) }
     ensures counted { Counts result (told (render_course name.now) (D.state desk.old).held) steps.old steps.new }
 {
     match read_world(alloc, name, desk) {

@@ -16,12 +16,14 @@ use lc_desk::Desk;
 use lc_frame::{FrameStop, Summary};
 use lc_make::{light_count, sample_count, triangle_count};
 
-/// Puts on Report how many lights, triangles and samples the scene of a number has, how many nodes the cuts have in all,
-/// and their greatest bound.
+/// Puts on Report how many lights, triangles and samples the scene of a number has, how many nodes the cuts have in
+/// all, and their greatest bound.
 #[tactic(auto, unfolding(crate::specs::Summaries::summary_bytes))]
 pub fn put_summary<D: Desk>(number: u32, summary: &Summary, desk: &mut D) -> Result<(), FrameStop>
-    ensures made { OnOk result (Made (call.put Report (summary_bytes number summary.now) ∷ []) (D.state desk.old) (D.state desk.new)) }
-    ensures broke { IfErr result (λ stop. Broke stop (call.put Report (summary_bytes number summary.now) ∷ []) (D.state desk.old) (D.state desk.new)) }
+    ensures made { OnOk result (Made (call.put Report (summary_bytes number summary.now) ∷ [])
+        (D.state desk.old) (D.state desk.new)) }
+    ensures broke { IfErr result (λ stop. Broke stop (call.put Report (summary_bytes number summary.now) ∷ [])
+        (D.state desk.old) (D.state desk.new)) }
 {
     let mut digits = Buffer::new();
     let mut line = ArrayString::<192>::new();

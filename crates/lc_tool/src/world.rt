@@ -1,12 +1,12 @@
 // The world of a job: what is seen and what lights it.
-ghost use Rattle.std.specs.Prelude.{◌≡◌, IfOk, IfErr, Ok, Some};
+ghost use Rattle.std.specs.Prelude.{◌≡◌, IfOk, Ok, Some};
 ghost use Rattle.lc_light.specs.Lights.{AreLights};
 ghost use Rattle.lc_mtl.specs.Materials.{AreMaterials};
 ghost use Rattle.lc_obj.specs.Meshes.{IsMesh};
 ghost use Rattle.lc_job.specs.Jobs.{IsJob};
 ghost use Rattle.lc_tool.specs.Course.{at_once, told};
 ghost use Rattle.lc_tool.specs.Outcome.{built, furnished, lit, world_by, world_of};
-ghost use Rattle.lc_tool.specs.Stopped.{StoppedBy, Went};
+ghost use Rattle.lc_tool.specs.Stopped.{GoesAs, ReadsAs, StopsAs, StopsReading};
 
 use crate::note::note_memory;
 use crate::read::{read_job_file, read_libraries, read_light_file, read_scene_file};
@@ -38,9 +38,11 @@ pub fn join_world<D: Desk>(
     requires mesh { IsMesh mesh }
     requires materials { AreMaterials materials.now.items }
     requires lights { AreLights lights }
-    ensures went { IfOk result (λ world. Went (Some (at_once (Ok (world_by job mesh materials.now.items lights)))) world (D.state desk.old) (D.state desk.new)) }
+    ensures went { GoesAs result (Some (at_once (Ok (world_by job mesh materials.now.items lights))))
+        (D.state desk.old) (D.state desk.new) }
     ensures same { IfOk result (λ world. world.job ≡ job) }
-    ensures stopped { IfErr result (λ stop. StoppedBy stop (Some (at_once (Ok (world_by job mesh materials.now.items lights)))) (D.state desk.old) (D.state desk.new)) }
+    ensures stopped { StopsAs result (Some (at_once (Ok (world_by job mesh materials.now.items lights))))
+        (D.state desk.old) (D.state desk.new) }
 {
     match Scene::join(alloc, mesh, materials, lights, job.seed) {
         Ok(scene) => Ok(World { job, scene }),
@@ -61,9 +63,9 @@ fn light_scene<D: Desk>(
 ) -> Result<World, Stop>
     requires mesh { IsMesh mesh }
     requires materials { AreMaterials materials.now.items }
-    ensures went { IfOk result (λ world. Went (told (lit job mesh materials.now.items) (D.state desk.old).held) world (D.state desk.old) (D.state desk.new)) }
+    ensures went { ReadsAs result (lit job mesh materials.now.items) (D.state desk.old) (D.state desk.new) }
     ensures same { IfOk result (λ world. world.job ≡ job) }
-    ensures stopped { IfErr result (λ stop. StoppedBy stop (told (lit job mesh materials.now.items) (D.state desk.old).held) (D.state desk.old) (D.state desk.new)) }
+    ensures stopped { StopsReading result (lit job mesh materials.now.items) (D.state desk.old) (D.state desk.new) }
 {
     let lights = read_light_file(alloc, job.lights.as_str(), job.seed, desk)?;
     join_world(alloc, job, mesh, materials, lights, desk)
@@ -72,9 +74,9 @@ fn light_scene<D: Desk>(
 /// The world of a mesh, with the libraries that it names. A refusal is told on Note.
 fn furnish_scene<D: Desk>(alloc: Global, job: Job, mesh: Mesh, desk: &mut D) -> Result<World, Stop>
     requires { IsMesh mesh }
-    ensures went { IfOk result (λ world. Went (told (furnished job mesh) (D.state desk.old).held) world (D.state desk.old) (D.state desk.new)) }
+    ensures went { ReadsAs result (furnished job mesh) (D.state desk.old) (D.state desk.new) }
     ensures same { IfOk result (λ world. world.job ≡ job) }
-    ensures stopped { IfErr result (λ stop. StoppedBy stop (told (furnished job mesh) (D.state desk.old).held) (D.state desk.old) (D.state desk.new)) }
+    ensures stopped { StopsReading result (furnished job mesh) (D.state desk.old) (D.state desk.new) }
 {
     let materials = read_libraries(alloc, job.scene.as_str(), mesh.libs.as_slice(), desk)?;
     light_scene(alloc, job, mesh, &materials, desk)
@@ -82,9 +84,9 @@ fn furnish_scene<D: Desk>(alloc: Global, job: Job, mesh: Mesh, desk: &mut D) -> 
 
 /// The world of a job. A refusal is told on Note.
 fn build_scene<D: Desk>(alloc: Global, job: Job, desk: &mut D) -> Result<World, Stop>
-    ensures went { IfOk result (λ world. Went (told (built job) (D.state desk.old).held) world (D.state desk.old) (D.state desk.new)) }
+    ensures went { ReadsAs result (built job) (D.state desk.old) (D.state desk.new) }
     ensures same { IfOk result (λ world. world.job ≡ job) }
-    ensures stopped { IfErr result (λ stop. StoppedBy stop (told (built job) (D.state desk.old).held) (D.state desk.old) (D.state desk.new)) }
+    ensures stopped { StopsReading result (built job) (D.state desk.old) (D.state desk.new) }
 {
     let mesh = read_scene_file(alloc, job.scene.as_str(), desk)?;
     furnish_scene(alloc, job, mesh, desk)
@@ -92,9 +94,9 @@ fn build_scene<D: Desk>(alloc: Global, job: Job, desk: &mut D) -> Result<World, 
 
 /// Reads the world of a job's file. A refusal is told on Note.
 pub fn read_world<D: Desk>(alloc: Global, name: &str, desk: &mut D) -> Result<World, Stop>
-    ensures went { IfOk result (λ world. Went (told (world_of name.now) (D.state desk.old).held) world (D.state desk.old) (D.state desk.new)) }
+    ensures went { ReadsAs result (world_of name.now) (D.state desk.old) (D.state desk.new) }
     ensures valid { IfOk result (λ world. IsJob world.job) }
-    ensures stopped { IfErr result (λ stop. StoppedBy stop (told (world_of name.now) (D.state desk.old).held) (D.state desk.old) (D.state desk.new)) }
+    ensures stopped { StopsReading result (world_of name.now) (D.state desk.old) (D.state desk.new) }
 {
     let job = read_job_file(alloc, name, desk)?;
     build_scene(alloc, job, desk)

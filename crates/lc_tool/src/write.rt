@@ -15,7 +15,8 @@ use lc_frame::FrameStop;
 /// Puts a line on Report.
 pub fn put_report<D: Desk>(desk: &mut D, line: &[u8]) -> Result<(), FrameStop>
     ensures made { OnOk result (Made (call.put Report line.now ∷ []) (D.state desk.old) (D.state desk.new)) }
-    ensures broke { IfErr result (λ stop. Broke stop (call.put Report line.now ∷ []) (D.state desk.old) (D.state desk.new)) }
+    ensures broke { IfErr result (λ stop. Broke stop (call.put Report line.now ∷ [])
+        (D.state desk.old) (D.state desk.new)) }
 {
     match desk.put(Slot::Report, line) {
         Ok(()) => Ok(()),

@@ -92,7 +92,7 @@ type Writing = (Result<(), PutStop>, u64, u64);
 fn write_over<R: Files + Print>(system: &R) -> Writing {
     let mut desk = HostDesk::new(system, system);
     let answer = write_picture(&mut desk, "a.ppm", b"P6 1 1 25");
-    (answer, desk.tally.picture.faults, desk.tally.shorts)
+    (answer, desk.tally.slots.picture.faults, desk.tally.shorts)
 }
 
 fn write_under(files: &Tape, alloc: Global, plan: Plan) -> Writing {
@@ -226,7 +226,7 @@ fn prints_each_stream_on_its_own(rt: HostRuntime) {
     );
     assert_eq!(rt; errors.take(rt.alloc()).as_slice(), b"a.txt: ".as_slice());
     assert_eq!(rt; files.take(rt.alloc()).len(), 0);
-    assert_eq!(rt; (desk.tally.report.faults, desk.tally.note.faults), (0, 1));
+    assert_eq!(rt; (desk.tally.slots.report.faults, desk.tally.slots.note.faults), (0, 1));
 }
 
 #[test]
@@ -242,5 +242,5 @@ fn wants_memory_to_print(rt: HostRuntime) {
     let mut desk = HostDesk::new(&full, &full);
     assert_eq!(rt; note_over(&mut desk, b"a.txt"), Err(PutStop::Memory));
     assert_eq!(rt; errors.take(rt.alloc()).as_slice(), b"a.".as_slice());
-    assert_eq!(rt; (desk.tally.shorts, desk.tally.note.faults), (1, 0));
+    assert_eq!(rt; (desk.tally.shorts, desk.tally.slots.note.faults), (1, 0));
 }

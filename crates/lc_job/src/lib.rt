@@ -15,6 +15,3 @@ pub use job::Job;
 pub use key::Key;
 pub use reader::read_job;
 pub use stop::JobStop;
-
-#[cfg(test)]
-mod tests;

@@ -15,6 +15,3 @@ pub use area::area_powers_add_up;
 pub use lights::{Lights, Omni, Oriented, Sun};
 pub use reader::{oriented_powers_are_those_of_areas, read_lights};
 pub use stop::LightStop;
-
-#[cfg(test)]
-mod tests;

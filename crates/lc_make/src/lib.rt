@@ -9,6 +9,3 @@ mod pieces;
 
 pub use counts::{light_count, sample_count, triangle_count};
 pub use made::{Made, make};
-
-#[cfg(test)]
-mod tests;

@@ -14,6 +14,3 @@ mod stop;
 pub use material::{Material, Materials};
 pub use reader::read_mtl;
 pub use stop::MtlStop;
-
-#[cfg(test)]
-mod tests;

@@ -17,6 +17,3 @@ mod values;
 pub use mesh::{Face, Mesh, Triple, Uv, UvTriple};
 pub use reader::read_obj;
 pub use stop::ObjStop;
-
-#[cfg(test)]
-mod tests;

@@ -14,6 +14,3 @@ pub use laws::readings;
 pub use line::{Line, line_text};
 pub use reader::{Record, read_record};
 pub use stop::RecordStop;
-
-#[cfg(test)]
-mod tests;

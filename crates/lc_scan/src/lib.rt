@@ -22,6 +22,3 @@ pub use lines::Lines;
 pub use names::name_of;
 pub use spoken::{count, has_fields, next_spoken};
 pub use wholes::whole;
-
-#[cfg(test)]
-mod tests;

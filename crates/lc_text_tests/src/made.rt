@@ -1,5 +1,5 @@
 // Made scenes, worked out by hand.
-use super::*;
+use lc_make::{Made, make};
 use std::test::*;
 
 fn lines(text: &[u8]) -> usize {

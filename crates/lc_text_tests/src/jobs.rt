@@ -1,5 +1,5 @@
 // Worked examples of job files.
-use super::*;
+use lc_job::{JobStop, Key, read_job};
 use lc_num::{Rule, Vec3};
 use lc_view::Camera;
 use std::alloc::Global;

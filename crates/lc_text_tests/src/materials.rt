@@ -1,5 +1,5 @@
 // Worked examples of material libraries.
-use super::*;
+use lc_mtl::{Material, Materials, MtlStop, read_mtl};
 use lc_num::Colour;
 use std::test::*;
 

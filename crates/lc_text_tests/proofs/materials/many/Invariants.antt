@@ -1,5 +1,5 @@
 use Rattle.lc_mtl.specs.Materials.{AreMaterials}
-use Rattle.lc_mtl.proofs.tests.many.Given as goal
+use Rattle.lc_text_tests.proofs.materials.many.Given as goal
 
 abbrev pub invariant-loop-more : goal.invariant-loop-more
 invariant-loop-more g l = AreMaterials l.materials.items

@@ -1,7 +1,7 @@
 // Worked examples of meshes, and of texts that are refused.
-use super::*;
 use lc_geom::Tri;
 use lc_num::{Memory, Text, Vec3};
+use lc_obj::{Face, ObjStop, Triple, Uv, UvTriple, read_obj};
 use std::alloc::Global;
 use std::test::*;
 

@@ -1,5 +1,7 @@
 // Worked examples of light files.
-use super::*;
+use lc_light::{
+    LightStop, Omni, Sun, area_powers_add_up, oriented_powers_are_those_of_areas, read_lights,
+};
 use lc_num::{Power, Vec3};
 use std::test::*;
 

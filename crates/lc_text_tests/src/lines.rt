@@ -1,5 +1,7 @@
 // Worked examples of lines, fields, numbers and names.
-use super::*;
+use lc_scan::{
+    Fields, Lines, NumFault, count, decimal, has_fields, name_of, next_spoken, rest, whole,
+};
 use std::test::*;
 
 #[test]

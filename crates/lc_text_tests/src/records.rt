@@ -2,9 +2,9 @@
 ghost use Rattle.std.specs.Prelude.{◌≡◌};
 ghost use Rattle.lc_record.specs.Record.{IsSample};
 
-use super::*;
 use lc_num::{Memory, Rgb, Rule, Text};
 use lc_rated::Answer;
+use lc_record::{Header, Line, RecordStop, header_text, line_text, read_record};
 use std::alloc::Global;
 use std::process::Abort;
 use std::test::*;

@@ -45,7 +45,9 @@ fn rule_in(bytes: &[u8]) -> Option<(Rule, &[u8])>
     ensures none { IfNone result ((rule : RuleValue) (rest : Items ℕ) → bytes.now ≢ field (rule_number rule) ++ rest) }
 {
     let (version, rest) = number(bytes, 1, 2, b' ')?;
-    let rule = Rule::of(version as u64)?;
+    let Some(rule) = Rule::of(version as u64) else {
+        unreachable!();
+    };
     Some((rule, rest))
 }
 

@@ -43,6 +43,10 @@ lines_from kept first end = slice_range kept.lines (first * per_pixel kept.heade
 abbrev pub samples_at : Record → ℕ → ℕ → List Answer
 samples_at kept row col = lines_from kept (row * kept.header.width + col) (row * kept.header.width + col + 1)
 
+-- the samples of the pixels of a row, from the left
+abbrev pub row_samples : Record → ℕ → List Answer
+row_samples kept row = flat_map (samples_at kept row) (range_with_len 0 kept.header.width)
+
 -- the three bytes of a grey pixel
 abbrev pub grey : ℕ → List ℕ
 grey byte = byte ∷ byte ∷ byte ∷ []
@@ -58,4 +62,5 @@ row_bytes kind kept row = flat_map (pixel_bytes kind kept row) (range_with_len 0
 -- the binary PPM picture of a record, its rows from the top
 unfoldable pub map_bytes : Kind → Record → List ℕ
 map_bytes kind kept =
-    tone.header_bytes kept.header.width kept.header.height ++ flat_map (row_bytes kind kept) (range_with_len 0 kept.header.height)
+    tone.header_bytes kept.header.width kept.header.height
+    ++ flat_map (row_bytes kind kept) (range_with_len 0 kept.header.height)

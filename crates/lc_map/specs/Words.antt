@@ -16,7 +16,9 @@ abbrev pub kind_of : List ℕ → Option Kind
 kind_of word =
     if bytes_eq word (codes "bound")
     then Some Bound
-    else (if bytes_eq word (codes "size") then Some Size else (if bytes_eq word (codes "missed") then Some Missed else None))
+    else (if bytes_eq word (codes "size")
+    then Some Size
+    else (if bytes_eq word (codes "missed") then Some Missed else None))
 
 -- a picture does not overwrite the record that it maps
 abbrev pub order_by : List ℕ → List ℕ → Option Kind → Option Order

@@ -1,14 +1,15 @@
 #!/usr/bin/env bash
-# Makes each allocation of a probe, a render, an audit, a plain picture, a made scene and a reading of a record fail
-# in turn, one a run, by a library that stands before the C library's. Each run has to give what it gives with ample
+# Makes each allocation of a probe, a render, an audit, a plain picture, a made scene, a map of a record and a reading of
+# a record fail in turn, one a run, by a library that stands before the C library's. Each run has to give what it gives with ample
 # memory, or status 1, `out of memory` or nothing on standard error, nothing on standard output and no file but first
 # parts of the right ones. A reading, by the program `bench_record`, tells the record, or that there was no memory. It
-# ends with 1 where a run did something else. It takes a C compiler. Give the two programs' paths, or run `rt run` in
-# crates/lightcuts and crates/bench_record first.
+# ends with 1 where a run did something else. It takes a C compiler. Give the three programs' paths, or run `rt run` in
+# crates/lightcuts, crates/bench_record and crates/boundmap first.
 set -u
 crates=$(realpath "$(dirname "$0")/../crates") || exit 2
 program=$(realpath "${1:-$crates/lightcuts/out/lightcuts}") || exit 2
 reader=$(realpath "${2:-$crates/bench_record/out/bench_record}") || exit 2
+maps=$(realpath "${3:-$crates/boundmap/out/boundmap}") || exit 2
 work=$(mktemp -d)
 trap 'rm -rf "$work"' EXIT
 cd "$work" || exit 2
@@ -107,6 +108,7 @@ cp whole/b.lcb kept.txt
 sed 's/b.lcb/kept.txt/' j.txt >kept_job.txt
 refuse none none audit kept_job.txt 1
 refuse p.ppm none plain j.txt
+program=$maps refuse m.ppm none kept.txt m.ppm bound
 refuse made.ppm made.lcb make 0
 cp whole/made.lcb .
 refuse_reading made.lcb

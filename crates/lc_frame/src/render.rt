@@ -22,12 +22,7 @@ use std::alloc::Global;
 use std::sync::ledger::Ledger;
 
 /// Begins a file, with its header.
-pub fn start<D: Desk>(
-    desk: &mut D,
-    slot: Slot,
-    name: &str,
-    header: &[u8],
-) -> Result<(), FrameStop>
+pub fn start<D: Desk>(desk: &mut D, slot: Slot, name: &str, header: &[u8]) -> Result<(), FrameStop>
     ensures made { OnOk result (Made (call.begin slot name.now ∷ call.put slot header.now ∷ []) (D.state desk.old)
         (D.state desk.new)) }
     ensures open { OnOk result (CanPut (D.state desk.new).slots slot) }

@@ -43,6 +43,10 @@ lines_from kept first end = slice_range kept.lines (first * per_pixel kept.heade
 abbrev pub samples_at : Record → ℕ → ℕ → List Answer
 samples_at kept row col = lines_from kept (row * kept.header.width + col) (row * kept.header.width + col + 1)
 
+-- the samples of the pixels of a row, from the left
+abbrev pub row_samples : Record → ℕ → List Answer
+row_samples kept row = flat_map (samples_at kept row) (range_with_len 0 kept.header.width)
+
 -- the three bytes of a grey pixel
 abbrev pub grey : ℕ → List ℕ
 grey byte = byte ∷ byte ∷ byte ∷ []

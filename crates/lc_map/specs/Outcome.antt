@@ -20,11 +20,14 @@ usage_line = codes "usage: boundmap RECORD PICTURE bound|size|missed\n"
 abbrev pub row_put : Kind → Record → ℕ → List Call
 row_put kind kept row = put Picture (row_bytes kind kept row) ∷ []
 
+-- the puts of all rows, from the top
+abbrev pub rows_put : Kind → Record → List Call
+rows_put kind kept = flat_map (row_put kind kept) (range_with_len 0 kept.header.height)
+
 -- the begin and the puts of the picture, in their order: its header, and then each row of pixels
 unfoldable pub map_calls : List ℕ → Kind → Record → List Call
 map_calls name kind kept =
-    begin Picture name ∷ put Picture (tone.header_bytes kept.header.width kept.header.height)
-    ∷ flat_map (row_put kind kept) (range_with_len 0 kept.header.height)
+    begin Picture name ∷ put Picture (tone.header_bytes kept.header.width kept.header.height) ∷ rows_put kind kept
 
 -- the picture of a record; no light is evaluated
 unfoldable pub map_work : Order → Record → Work

@@ -16,8 +16,11 @@ abbrev pub sample_reaches : ℕ → Answer → Bool
 sample_reaches byte a =
     reaches a.est.r a.bound.r byte || (reaches a.est.g a.bound.g byte || reaches a.est.b a.bound.b byte)
 
+-- the bound is above the permille of the estimate
+abbrev pub is_above : ℕ → ℕ → ℕ → Bool
+is_above permille est bound = nat_lt (permille * est) (1000 * bound)
+
 -- the bound of a sample is above the permille of its estimate in some channel
 abbrev pub misses : ℕ → Answer → Bool
 misses permille a =
-    nat_lt (permille * a.est.r) (1000 * a.bound.r) ||
-        (nat_lt (permille * a.est.g) (1000 * a.bound.g) || nat_lt (permille * a.est.b) (1000 * a.bound.b))
+    is_above permille a.est.r a.bound.r || (is_above permille a.est.g a.bound.g || is_above permille a.est.b a.bound.b)

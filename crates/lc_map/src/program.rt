@@ -82,14 +82,14 @@ pub fn run<D: Desk>(alloc: Global, words: &[&str], desk: &mut D) -> Status
     ensures record { result ≡ Status.Done → (order : OrderValue) → order_of (texts words.now) ≡ Some order →
         HasRecord order (D.state desk.old).held }
     ensures picture { result ≡ Status.Done → (order : OrderValue) → (kept : RecordValue) →
-        IsMapOf (texts words.now) (D.state desk.old).held order kept
-        → HasMap order kept (D.state desk.old) (D.state desk.new) }
+        IsMapOf (texts words.now) (D.state desk.old).held order kept →
+        HasMap order kept (D.state desk.old) (D.state desk.new) }
 
     // Whatever the status, the picture's file is as it was, or was begun under its name and has a first part of those
     // bytes. The other outputs are as they were.
     ensures part { (order : OrderValue) → (kept : RecordValue) →
-        IsMapOf (texts words.now) (D.state desk.old).held order kept
-        → LeavesMap order kept (D.state desk.old) (D.state desk.new) }
+        IsMapOf (texts words.now) (D.state desk.old).held order kept →
+        LeavesMap order kept (D.state desk.old) (D.state desk.new) }
     ensures others { KeepsOthers (D.state desk.old) (D.state desk.new) }
 
     // It reads no file but the record, and begins none but the picture.
@@ -103,21 +103,21 @@ pub fn run<D: Desk>(alloc: Global, words: &[&str], desk: &mut D) -> Status
     // The usage is told exactly where the words are no order.
     ensures usage { (result ≡ Status.Usage) ↔ (order_of (texts words.now) ≡ None) }
 
-    // It stops before the picture is begun where the record has a fault, is absent or is too long, for a fault of a
-    // read or for want of memory, each with its cause.
-    ensures stopped { (stop : StopValue) → result ≡ Status.Stopped stop
-        → Stops (texts words.now) stop (D.state desk.old) (D.state desk.new) }
+    // It stops before the picture is begun where the record has a fault, is absent or is too long, for a fault of a read
+    // or for want of memory, each with its cause.
+    ensures stopped { (stop : StopValue) → result ≡ Status.Stopped stop →
+        Stops (texts words.now) stop (D.state desk.old) (D.state desk.new) }
 
     // It breaks off only where the count of the picture's faults rose, or for want of memory.
-    ensures unwritten { (stop : WriteStop) → result ≡ Status.Unwritten stop
-        → Breaks (texts words.now) stop (D.state desk.old) (D.state desk.new) }
+    ensures unwritten { (stop : WriteStop) → result ≡ Status.Unwritten stop →
+        Breaks (texts words.now) stop (D.state desk.old) (D.state desk.new) }
     ensures write_fault { (slot : SlotValue) → result ≡ Status.Unwritten (frame.Write slot) →
         (slot ≡ Picture) × PictureFailed (D.state desk.old) (D.state desk.new) }
 
     // Each other end than that all is done has its line on Note, and nothing is written before the record is read.
     ensures noted { result ≢ Status.Done → HasLine result (D.state desk.old) (D.state desk.new) }
-    ensures unbegun { (stop : StopValue) → result ≡ Status.Stopped stop
-        → SameOutputs (D.state desk.old) (D.state desk.new) }
+    ensures unbegun { (stop : StopValue) → result ≡ Status.Stopped stop →
+        SameOutputs (D.state desk.old) (D.state desk.new) }
 
     // With no fault counted the status is the outcome's, or there was no memory. Over a desk with no call to fail no
     // fault is answered.

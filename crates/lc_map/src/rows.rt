@@ -1,13 +1,12 @@
 // A map of a record, row by row, over a desk.
-ghost use Rattle.std.specs.Prelude.{◌≡◌, ◌+◌, ◌*◌, ◌≤◌, ◌<◌, [], ◌++◌, All, OnOk, IfOk, IfErr, IsTrue, flat_map, length, vec_capacity, vec_len};
-ghost use Rattle.std.specs.List.{range_with_len};
+ghost use Rattle.std.specs.Prelude.{◌≡◌, ◌+◌, ◌*◌, ◌≤◌, ◌<◌, [], ◌++◌, All, OnOk, IfOk, IfErr, IsTrue, length, vec_capacity, vec_len};
 ghost use Rattle.lc_desk.specs.Calls.{Made};
 ghost use Rattle.lc_frame.specs.Stops.{Broke, StoppedIn};
 ghost use Rattle.lc_record.specs.Record.{IsHeader, IsSample};
 ghost use Rattle.lc_tone.specs.Tone.{header_bytes};
 ghost use Rattle.lc_tool.specs.Audited.{IsRecord};
 ghost use Rattle.lc_map.specs.Map.{grey, per_pixel, row_bytes, samples_at};
-ghost use Rattle.lc_map.specs.Outcome.{map_calls, row_put};
+ghost use Rattle.lc_map.specs.Outcome.{map_calls, rows_put};
 
 use crate::kind::Kind;
 use crate::pixel::byte_of;
@@ -70,11 +69,8 @@ fn map_all<D: Desk>(
     requires kept { IsRecord kept.now }
     requires space { 3 * kept.now.header.width ≤ vec_capacity bytes.old }
     requires begun { IsTrue (D.state desk.old).slots.picture.begun }
-    ensures made { OnOk result (Made (flat_map (row_put kind kept.now) (range_with_len 0 kept.now.header.height))
-        (D.state desk.old) (D.state desk.new)) }
-    ensures broke { IfErr result (λ stop. Broke stop
-        (flat_map (row_put kind kept.now) (range_with_len 0 kept.now.header.height)) (D.state desk.old)
-        (D.state desk.new)) }
+    ensures made { OnOk result (Made (rows_put kind kept.now) (D.state desk.old) (D.state desk.new)) }
+    ensures broke { IfErr result (λ stop. Broke stop (rows_put kind kept.now) (D.state desk.old) (D.state desk.new)) }
 {
     for row in 0..kept.header.height {
         map_row(kind, kept, row, bytes);
@@ -111,8 +107,8 @@ pub(crate) fn map_rows<D: Desk>(
 ) -> Result<(), FrameStop>
     requires { IsRecord kept.now }
     ensures made { OnOk result (Made (map_calls name.now kind kept.now) (D.state desk.old) (D.state desk.new)) }
-    ensures stopped { IfErr result (λ stop. StoppedIn stop (map_calls name.now kind kept.now) (D.state desk.old)
-        (D.state desk.new)) }
+    ensures stopped { IfErr result (λ stop.
+        StoppedIn stop (map_calls name.now kind kept.now) (D.state desk.old) (D.state desk.new)) }
 {
     let head = picture_head(alloc, &kept.header)?;
     let mut bytes = row_room(alloc, &kept.header)?;

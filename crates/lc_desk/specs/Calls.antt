@@ -49,8 +49,8 @@ abbrev pub HasRisen : PutStop → Slot → DeskState → DeskState → Type 0
 HasRisen stop.Failed slot before now = Rose (slot_at before.faults.puts slot) (slot_at now.faults.puts slot)
 HasRisen stop.Memory slot before now = Rose before.shorts now.shorts
 
--- the calls were made one after another up to one that was refused: those before it were answered Ok, and it left a part
--- of its piece at most
+-- the calls were made one after another up to one that was refused: those before it were answered Ok, and it left a
+-- part of its piece at most
 pub record BrokeOff (why : PutStop) (calls : List Call) (before now : DeskState) : Type 0 where
   pub done : List Call
   pub refused : Call

@@ -72,19 +72,21 @@ pub record Later (before now : DeskState) : Type 0 where
   -- a desk with no call to fail counts no fault
   pub no_fault : IsTrue before.steady → now.faults ≡ before.faults
 
--- what a read may change: the count of faults for reads, the counts that belong to no slot, and what it was asked to read
+-- what a read may change: the count of faults for reads, the counts that belong to no slot, and what it was asked to
+-- read
 pub record OnlyReads (before now : DeskState) : Type 0 where
   pub later : Later before now
   pub slots : now.slots ≡ before.slots
   pub faults : now.faults ≡ record before.faults { reads = now.faults.reads }
   pub begins : now.begins ≡ before.begins
 
--- what a begin or a put may change: its slot, the slot's count of faults, the counts that belong to no slot, and what it
--- was asked to begin
+-- what a begin or a put may change: its slot, the slot's count of faults, the counts that belong to no slot, and what
+-- it was asked to begin
 pub record OnlySlot (slot : Slot) (before now : DeskState) : Type 0 where
   pub later : Later before now
   pub slots : now.slots ≡ with_slot before.slots slot (slot_at now.slots slot)
-  pub faults : now.faults ≡ record before.faults { puts = with_slot before.faults.puts slot (slot_at now.faults.puts slot) }
+  pub faults : now.faults
+      ≡ record before.faults { puts = with_slot before.faults.puts slot (slot_at now.faults.puts slot) }
   pub asked : now.asked ≡ before.asked
 
 -- over a desk that tells its files, the file of this name is so

@@ -42,7 +42,11 @@ shorts_after (Err put_stop.Memory) n = raised n
 
 -- a begin or a put of the slot raises the one count of its cause by one, and no other
 pub record CountsPut {T : Type 0} (result : Result T PutStop) (slot : Slot) (before now : DeskState) : Type 0 where
-  pub faults : now.faults ≡ record before.faults { puts = with_slot before.faults.puts slot (faults_after result (slot_at before.faults.puts slot)) }
+  pub faults : now.faults
+      ≡ record before.faults {
+        puts = with_slot before.faults.puts slot
+            (faults_after result (slot_at before.faults.puts slot));
+      }
   pub shorts : now.shorts ≡ shorts_after result before.shorts
   pub absents : now.absents ≡ before.absents
   pub longs : now.longs ≡ before.longs

@@ -37,7 +37,8 @@ untold_state = record {
 
 -- a file that was made for a slot has these bytes more, where it tells what it holds
 abbrev pub HasMore : {F : Type 0} → (F → Option (List ℕ)) → List ℕ → Option F → Option F → Type 0
-HasMore {F} contents piece before now = (f : F) → before ≡ Some f → (g : F) × (now ≡ Some g) × Appends (contents f) (contents g) piece
+HasMore {F} contents piece before now =
+    (f : F) → before ≡ Some f → (g : F) × (now ≡ Some g) × Appends (contents f) (contents g) piece
 
 -- known bytes gained a first part of the piece, and nothing else
 abbrev pub AppendsPart : Option (List ℕ) → Option (List ℕ) → List ℕ → Type 0

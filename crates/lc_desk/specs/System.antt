@@ -33,8 +33,8 @@ pub record StopsOpen (error : Error) (stop : ReadStop) : Type 0 where
   pub absent : error_kind error ≡ NotFound → stop ≡ read_stop.Absent
   pub failed : error_kind error ≢ NotFound → stop ≡ read_stop.Failed
 
--- what the look at an open file tells: a file is long where it has more than limit bytes, else its length is the room to
--- take, and of what is no file nothing is known before it is read
+-- what the look at an open file tells: a file is long where it has more than limit bytes, else its length is the room
+-- to take, and of what is no file nothing is known before it is read
 pub record TellsLength (limit : ℕ) (found : Metadata) (result : Result ℕ ReadStop) : Type 0 where
   pub long : IsFile (file_type found) → limit < metadata_len found → result ≡ Err read_stop.Long
   pub room : IsFile (file_type found) → metadata_len found ≤ limit → result ≡ Ok (metadata_len found)

@@ -21,8 +21,8 @@ use std::{fs, io};
 /// standard output and Note is standard error. It tells no contents.
 ///
 /// A file that is not found counts as absent. A call that a signal interrupts is tried again. Where the system has no
-/// memory for a begin or a put, that is want of memory. Any other refusal of the system is a fault of the read or of the
-/// slot, as are a folder in place of a file, a full disk and a closed pipe.
+/// memory for a begin or a put, that is want of memory. Any other refusal of the system is a fault of the read or of
+/// the slot, as are a folder in place of a file, a full disk and a closed pipe.
 #[derive(Drop)]
 pub struct HostDesk<'a, R: Files + Print, E: Print> {
     runtime: &'a R,
@@ -56,7 +56,8 @@ fn read_opened<F: OpenFile + Read + Drop>(
     requires { length into.old.items ≤ limit }
     ensures refused { IfErr opened (λ error. IsErrAnd result (StopsOpen error)) }
     ensures present { IsErrOf result ReadStop.Absent → IsErr opened }
-    ensures bytes { IfOk opened (λ file. OnOk result (IfSome (F.remaining file) (λ left. into.new.items ≡ into.old.items ++ left))) }
+    ensures bytes { IfOk opened (λ file. OnOk result (IfSome (F.remaining file) (λ left. into.new.items
+        ≡ into.old.items ++ left))) }
     ensures within { OnOk result (length into.new.items ≤ limit) }
 {
     let mut file = match opened {
@@ -120,11 +121,14 @@ fn put_to<F: Write, O: Write, N: Write>(
     ensures bounds { OnOk result (slot ≡ Slot.Bounds → HasMore F.contents piece.now bounds.old bounds.new) }
     ensures bounds_part { OnErr result (slot ≡ Slot.Bounds → HasPart F.contents piece.now bounds.old bounds.new) }
     ensures other_bounds { slot ≢ Slot.Bounds → bounds.new ≡ bounds.old }
-    ensures report { OnOk result (slot ≡ Slot.Report → Appends (O.contents report.old) (O.contents report.new) piece.now) }
-    ensures report_part { OnErr result (slot ≡ Slot.Report → AppendsPart (O.contents report.old) (O.contents report.new) piece.now) }
+    ensures report { OnOk result (slot ≡ Slot.Report
+        → Appends (O.contents report.old) (O.contents report.new) piece.now) }
+    ensures report_part { OnErr result (slot ≡ Slot.Report
+        → AppendsPart (O.contents report.old) (O.contents report.new) piece.now) }
     ensures other_report { slot ≢ Slot.Report → report.new ≡ report.old }
     ensures note { OnOk result (slot ≡ Slot.Note → Appends (N.contents note.old) (N.contents note.new) piece.now) }
-    ensures note_part { OnErr result (slot ≡ Slot.Note → AppendsPart (N.contents note.old) (N.contents note.new) piece.now) }
+    ensures note_part { OnErr result (slot ≡ Slot.Note
+        → AppendsPart (N.contents note.old) (N.contents note.new) piece.now) }
     ensures other_note { slot ≢ Slot.Note → note.new ≡ note.old }
 {
     match slot {
@@ -140,14 +144,21 @@ impl<'a, R: Files + Print, E: Print> Desk for HostDesk<'a, R, E> {
 
     fn read(&mut self, name: &str, limit: u64, into: &mut Vec<u8>) -> Result<(), ReadStop>
         // The trait's clauses.
-        ensures bytes { OnOk result (Told (tally_state self.old.tally).held name.now (λ file. file ≡ Some into.new.items)) }
+        ensures bytes { OnOk result (Told (tally_state self.old.tally).held name.now (λ file. file
+            ≡ Some into.new.items)) }
         ensures within { OnOk result (length into.new.items ≤ limit) }
         ensures emptied { OnErr result (into.new.items ≡ []) }
-        ensures absent { IsErrOf result ReadStop.Absent → Rose (tally_state self.old.tally).absents (tally_state self.new.tally).absents }
-        ensures absent_told { IsErrOf result ReadStop.Absent → Told (tally_state self.old.tally).held name.now (λ file. file ≡ None) }
-        ensures long { IsErrOf result ReadStop.Long → Rose (tally_state self.old.tally).longs (tally_state self.new.tally).longs }
-        ensures long_told { IsErrOf result ReadStop.Long → Told (tally_state self.old.tally).held name.now (λ file. (bytes : List ℕ) × (file ≡ Some bytes) × (limit < length bytes)) }
-        ensures failed { IsErrOf result ReadStop.Failed → Rose (tally_state self.old.tally).faults.reads (tally_state self.new.tally).faults.reads }
+        ensures absent { IsErrOf result ReadStop.Absent
+            → Rose (tally_state self.old.tally).absents (tally_state self.new.tally).absents }
+        ensures absent_told { IsErrOf result ReadStop.Absent
+            → Told (tally_state self.old.tally).held name.now (λ file. file ≡ None) }
+        ensures long { IsErrOf result ReadStop.Long
+            → Rose (tally_state self.old.tally).longs (tally_state self.new.tally).longs }
+        ensures long_told { IsErrOf result ReadStop.Long
+            → Told (tally_state self.old.tally).held name.now (λ file. (bytes : List ℕ) × (file ≡ Some bytes)
+            × (limit < length bytes)) }
+        ensures failed { IsErrOf result ReadStop.Failed
+            → Rose (tally_state self.old.tally).faults.reads (tally_state self.new.tally).faults.reads }
         ensures counted { CountsRead result (tally_state self.old.tally) (tally_state self.new.tally) }
         ensures asked { (tally_state self.new.tally).asked ≡ (tally_state self.old.tally).asked ++ name.now ∷ [] }
         ensures same { OnlyReads (tally_state self.old.tally) (tally_state self.new.tally) }
@@ -168,12 +179,17 @@ impl<'a, R: Files + Print, E: Print> Desk for HostDesk<'a, R, E> {
 
     fn begin(&mut self, slot: Slot, name: &str) -> Result<(), PutStop>
         // The trait's clauses.
-        ensures begun { OnOk result (slot_at (tally_state self.new.tally).slots slot ≡ opened name.now (slot_at (tally_state self.old.tally).slots slot)) }
+        ensures begun { OnOk result (slot_at (tally_state self.new.tally).slots slot
+            ≡ opened name.now (slot_at (tally_state self.old.tally).slots slot)) }
         ensures kept { OnErr result ((tally_state self.new.tally).slots ≡ (tally_state self.old.tally).slots) }
-        ensures failed { IsErrOf result PutStop.Failed → Rose (slot_at (tally_state self.old.tally).faults.puts slot) (slot_at (tally_state self.new.tally).faults.puts slot) }
-        ensures memory { IsErrOf result PutStop.Memory → Rose (tally_state self.old.tally).shorts (tally_state self.new.tally).shorts }
+        ensures failed { IsErrOf result PutStop.Failed
+            → Rose (slot_at (tally_state self.old.tally).faults.puts slot)
+            (slot_at (tally_state self.new.tally).faults.puts slot) }
+        ensures memory { IsErrOf result PutStop.Memory
+            → Rose (tally_state self.old.tally).shorts (tally_state self.new.tally).shorts }
         ensures counted { CountsPut result slot (tally_state self.old.tally) (tally_state self.new.tally) }
-        ensures asked { (tally_state self.new.tally).begins ≡ (tally_state self.old.tally).begins ++ (slot, name.now) ∷ [] }
+        ensures asked { (tally_state self.new.tally).begins
+            ≡ (tally_state self.old.tally).begins ++ (slot, name.now) ∷ [] }
         ensures same { OnlySlot slot (tally_state self.old.tally) (tally_state self.new.tally) }
 
         // Exactly what it counts, and which slots it opens.
@@ -182,7 +198,8 @@ impl<'a, R: Files + Print, E: Print> Desk for HostDesk<'a, R, E> {
         ensures picture_made { OnOk result (slot ≡ Slot.Picture → IsSome self.new.picture) }
         ensures bounds_made { OnOk result (slot ≡ Slot.Bounds → IsSome self.new.bounds) }
         ensures streams { slot ≢ Slot.Picture → slot ≢ Slot.Bounds → IsOk result }
-        ensures files_kept { OnErr result ((self.new.picture ≡ self.old.picture) × (self.new.bounds ≡ self.old.bounds)) }
+        ensures files_kept { OnErr result ((self.new.picture ≡ self.old.picture)
+            × (self.new.bounds ≡ self.old.bounds)) }
         ensures other_picture { slot ≢ Slot.Picture → self.new.picture ≡ self.old.picture }
         ensures other_bounds { slot ≢ Slot.Bounds → self.new.bounds ≡ self.old.bounds }
     {
@@ -199,11 +216,18 @@ impl<'a, R: Files + Print, E: Print> Desk for HostDesk<'a, R, E> {
     fn put(&mut self, slot: Slot, piece: &[u8]) -> Result<(), PutStop>
         requires { CanPut (tally_state self.old.tally).slots slot }
         // The trait's clauses.
-        ensures put { OnOk result (slot_at (tally_state self.new.tally).slots slot ≡ appended piece.now (slot_at (tally_state self.old.tally).slots slot)) }
-        ensures failed { IsErrOf result PutStop.Failed → Rose (slot_at (tally_state self.old.tally).faults.puts slot) (slot_at (tally_state self.new.tally).faults.puts slot) }
-        ensures part { IsErrOf result PutStop.Failed → TookPart piece.now (slot_at (tally_state self.old.tally).slots slot) (slot_at (tally_state self.new.tally).slots slot) }
-        ensures memory { IsErrOf result PutStop.Memory → Rose (tally_state self.old.tally).shorts (tally_state self.new.tally).shorts }
-        ensures kept { IsErrOf result PutStop.Memory → (tally_state self.new.tally).slots ≡ (tally_state self.old.tally).slots }
+        ensures put { OnOk result (slot_at (tally_state self.new.tally).slots slot
+            ≡ appended piece.now (slot_at (tally_state self.old.tally).slots slot)) }
+        ensures failed { IsErrOf result PutStop.Failed
+            → Rose (slot_at (tally_state self.old.tally).faults.puts slot)
+            (slot_at (tally_state self.new.tally).faults.puts slot) }
+        ensures part { IsErrOf result PutStop.Failed
+            → TookPart piece.now (slot_at (tally_state self.old.tally).slots slot)
+            (slot_at (tally_state self.new.tally).slots slot) }
+        ensures memory { IsErrOf result PutStop.Memory
+            → Rose (tally_state self.old.tally).shorts (tally_state self.new.tally).shorts }
+        ensures kept { IsErrOf result PutStop.Memory
+            → (tally_state self.new.tally).slots ≡ (tally_state self.old.tally).slots }
         ensures counted { CountsPut result slot (tally_state self.old.tally) (tally_state self.new.tally) }
         ensures asked { (tally_state self.new.tally).begins ≡ (tally_state self.old.tally).begins }
         ensures same { OnlySlot slot (tally_state self.old.tally) (tally_state self.new.tally) }
@@ -212,11 +236,15 @@ impl<'a, R: Files + Print, E: Print> Desk for HostDesk<'a, R, E> {
         ensures after { tally_state self.new.tally ≡ after_put result slot [] (tally_state self.old.tally) }
 
         // The files take what is put, where they tell what they hold.
-        ensures picture { OnOk result (slot ≡ Slot.Picture → HasMore R.File.contents piece.now self.old.picture self.new.picture) }
-        ensures bounds { OnOk result (slot ≡ Slot.Bounds → HasMore R.File.contents piece.now self.old.bounds self.new.bounds) }
+        ensures picture { OnOk result (slot ≡ Slot.Picture
+            → HasMore R.File.contents piece.now self.old.picture self.new.picture) }
+        ensures bounds { OnOk result (slot ≡ Slot.Bounds
+            → HasMore R.File.contents piece.now self.old.bounds self.new.bounds) }
         // Where a put is refused, they take a part of it and nothing else.
-        ensures picture_part { OnErr result (slot ≡ Slot.Picture → HasPart R.File.contents piece.now self.old.picture self.new.picture) }
-        ensures bounds_part { OnErr result (slot ≡ Slot.Bounds → HasPart R.File.contents piece.now self.old.bounds self.new.bounds) }
+        ensures picture_part { OnErr result (slot ≡ Slot.Picture
+            → HasPart R.File.contents piece.now self.old.picture self.new.picture) }
+        ensures bounds_part { OnErr result (slot ≡ Slot.Bounds
+            → HasPart R.File.contents piece.now self.old.bounds self.new.bounds) }
         ensures other_picture { slot ≢ Slot.Picture → self.new.picture ≡ self.old.picture }
         ensures other_bounds { slot ≢ Slot.Bounds → self.new.bounds ≡ self.old.bounds }
     {

@@ -97,7 +97,8 @@ impl Kept {
         shorts: &mut u64,
         piece: &[u8],
     ) -> Result<(), PutStop>
-        ensures answer { MatchOption taken (IsOkUnless result PutStop.Memory) (λ _. (result ≡ Err PutStop.Failed) ⊎ (result ≡ Err PutStop.Memory)) }
+        ensures answer { MatchOption taken (IsOkUnless result PutStop.Memory) (λ _. (result ≡ Err PutStop.Failed)
+            ⊎ (result ≡ Err PutStop.Memory)) }
         ensures slot { kept_state self.new ≡ slot_after_put result (part_of taken piece.now) (kept_state self.old) }
         ensures faults { self.new.faults ≡ faults_after result self.old.faults }
         ensures shorts { shorts.new ≡ shorts_after result shorts.old }

@@ -72,9 +72,14 @@ impl MemoryDesk {
 
     /// Adds a file, in place of one of that name.
     pub fn add(&mut self, name: &str, bytes: &[u8]) -> Result<(), Memory>
-        ensures added { OnOk result ((n : List ℕ) → file_of (memory_view self.new) n ≡ (if bytes_eq name.now n then Some bytes.now else file_of (memory_view self.old) n)) }
-        ensures kept { OnErr result ((n : List ℕ) → file_of (memory_view self.new) n ≡ file_of (memory_view self.old) n) }
-        ensures others { memory_view self.new ≡ record (memory_view self.old) { desk = record (memory_state self.old) { held = (memory_state self.new).held } } }
+        ensures added { OnOk result ((n : List ℕ)
+            → file_of (memory_view self.new) n
+            ≡ (if bytes_eq name.now n then Some bytes.now else file_of (memory_view self.old) n)) }
+        ensures kept { OnErr result ((n : List ℕ)
+            → file_of (memory_view self.new) n ≡ file_of (memory_view self.old) n) }
+        ensures others { memory_view self.new ≡ record (memory_view self.old) {
+          desk = record (memory_state self.old) { held = (memory_state self.new).held };
+        } }
     {
         let name = String::from_str(self.alloc, name)?;
         let bytes = Vec::from_slice(self.alloc, bytes)?;
@@ -82,14 +87,20 @@ impl MemoryDesk {
         Ok(())
     }
 
-    /// Has a call fail. A put that fails still appends the first `taken` bytes of its piece, or all where the piece is shorter.
+    /// Has a call fail. A put that fails still appends the first `taken` bytes of its piece, or all where the piece
+    /// is shorter.
     ///
     /// Of several entries for one call the first given counts.
     pub fn fail(&mut self, call: u64, taken: u64) -> Result<(), Memory>
-        ensures added { OnOk result ((c : ℕ) → (memory_view self.new).taken c ≡ or_else ((memory_view self.old).taken c) (if call == c then Some taken else None)) }
+        ensures added { OnOk result ((c : ℕ)
+            → (memory_view self.new).taken c
+            ≡ or_else ((memory_view self.old).taken c) (if call == c then Some taken else None)) }
         ensures unsteady { OnOk result ((memory_state self.new).steady ≡ false) }
         ensures kept { OnErr result (memory_view self.new ≡ memory_view self.old) }
-        ensures others { memory_view self.new ≡ record (memory_view self.old) { desk = record (memory_state self.old) { steady = (memory_state self.new).steady }; taken = (memory_view self.new).taken } }
+        ensures others { memory_view self.new ≡ record (memory_view self.old) {
+          desk = record (memory_state self.old) { steady = (memory_state self.new).steady };
+          taken = (memory_view self.new).taken;
+        } }
     {
         self.failing.push(Failure { call, taken })?;
         Ok(())
@@ -111,17 +122,23 @@ impl Desk for MemoryDesk {
         ensures bytes { OnOk result (Told (memory_state self.old).held name.now (λ file. file ≡ Some into.new.items)) }
         ensures within { OnOk result (length into.new.items ≤ limit) }
         ensures emptied { OnErr result (into.new.items ≡ []) }
-        ensures absent { IsErrOf result ReadStop.Absent → Rose (memory_state self.old).absents (memory_state self.new).absents }
-        ensures absent_told { IsErrOf result ReadStop.Absent → Told (memory_state self.old).held name.now (λ file. file ≡ None) }
+        ensures absent { IsErrOf result ReadStop.Absent
+            → Rose (memory_state self.old).absents (memory_state self.new).absents }
+        ensures absent_told { IsErrOf result ReadStop.Absent
+            → Told (memory_state self.old).held name.now (λ file. file ≡ None) }
         ensures long { IsErrOf result ReadStop.Long → Rose (memory_state self.old).longs (memory_state self.new).longs }
-        ensures long_told { IsErrOf result ReadStop.Long → Told (memory_state self.old).held name.now (λ file. (bytes : List ℕ) × (file ≡ Some bytes) × (limit < length bytes)) }
-        ensures failed { IsErrOf result ReadStop.Failed → Rose (memory_state self.old).faults.reads (memory_state self.new).faults.reads }
+        ensures long_told { IsErrOf result ReadStop.Long
+            → Told (memory_state self.old).held name.now (λ file. (bytes : List ℕ) × (file ≡ Some bytes)
+            × (limit < length bytes)) }
+        ensures failed { IsErrOf result ReadStop.Failed
+            → Rose (memory_state self.old).faults.reads (memory_state self.new).faults.reads }
         ensures counted { CountsRead result (memory_state self.old) (memory_state self.new) }
         ensures asked { (memory_state self.new).asked ≡ (memory_state self.old).asked ++ name.now ∷ [] }
         ensures same { OnlyReads (memory_state self.old) (memory_state self.new) }
 
         // Exactly what it answers, and what it leaves.
-        ensures answer { MatchOption (read_stop (memory_view self.old) name.now limit) (IsOkUnless result ReadStop.Memory) (λ stop. result ≡ Err stop) }
+        ensures answer { MatchOption (read_stop (memory_view self.old) name.now limit)
+            (IsOkUnless result ReadStop.Memory) (λ stop. result ≡ Err stop) }
         ensures after { memory_view self.new ≡ called (after_read result name.now) (memory_view self.old) }
     {
         into.clear();
@@ -151,16 +168,21 @@ impl Desk for MemoryDesk {
 
     fn begin(&mut self, slot: Slot, name: &str) -> Result<(), PutStop>
         // The trait's clauses.
-        ensures begun { OnOk result (slot_at (memory_state self.new).slots slot ≡ opened name.now (slot_at (memory_state self.old).slots slot)) }
+        ensures begun { OnOk result (slot_at (memory_state self.new).slots slot
+            ≡ opened name.now (slot_at (memory_state self.old).slots slot)) }
         ensures kept { OnErr result ((memory_state self.new).slots ≡ (memory_state self.old).slots) }
-        ensures failed { IsErrOf result PutStop.Failed → Rose (slot_at (memory_state self.old).faults.puts slot) (slot_at (memory_state self.new).faults.puts slot) }
-        ensures memory { IsErrOf result PutStop.Memory → Rose (memory_state self.old).shorts (memory_state self.new).shorts }
+        ensures failed { IsErrOf result PutStop.Failed
+            → Rose (slot_at (memory_state self.old).faults.puts slot)
+            (slot_at (memory_state self.new).faults.puts slot) }
+        ensures memory { IsErrOf result PutStop.Memory
+            → Rose (memory_state self.old).shorts (memory_state self.new).shorts }
         ensures counted { CountsPut result slot (memory_state self.old) (memory_state self.new) }
         ensures asked { (memory_state self.new).begins ≡ (memory_state self.old).begins ++ (slot, name.now) ∷ [] }
         ensures same { OnlySlot slot (memory_state self.old) (memory_state self.new) }
 
         // Exactly what it answers, and what it leaves.
-        ensures answer { MatchOption (taken_next (memory_view self.old)) (IsOkUnless result PutStop.Memory) (λ _. result ≡ Err PutStop.Failed) }
+        ensures answer { MatchOption (taken_next (memory_view self.old)) (IsOkUnless result PutStop.Memory)
+            (λ _. result ≡ Err PutStop.Failed) }
         ensures after { memory_view self.new ≡ called (after_begin result slot name.now) (memory_view self.old) }
     {
         self.log.begin(&slot, name);
@@ -175,23 +197,30 @@ impl Desk for MemoryDesk {
     fn put(&mut self, slot: Slot, piece: &[u8]) -> Result<(), PutStop>
         requires { CanPut (memory_state self.old).slots slot }
         // The trait's clauses.
-        ensures put { OnOk result (slot_at (memory_state self.new).slots slot ≡ appended piece.now (slot_at (memory_state self.old).slots slot)) }
-        ensures failed { IsErrOf result PutStop.Failed → Rose (slot_at (memory_state self.old).faults.puts slot) (slot_at (memory_state self.new).faults.puts slot) }
-        ensures part { IsErrOf result PutStop.Failed → TookPart piece.now (slot_at (memory_state self.old).slots slot) (slot_at (memory_state self.new).slots slot) }
-        ensures memory { IsErrOf result PutStop.Memory → Rose (memory_state self.old).shorts (memory_state self.new).shorts }
+        ensures put { OnOk result (slot_at (memory_state self.new).slots slot
+            ≡ appended piece.now (slot_at (memory_state self.old).slots slot)) }
+        ensures failed { IsErrOf result PutStop.Failed
+            → Rose (slot_at (memory_state self.old).faults.puts slot)
+            (slot_at (memory_state self.new).faults.puts slot) }
+        ensures part { IsErrOf result PutStop.Failed
+            → TookPart piece.now (slot_at (memory_state self.old).slots slot)
+            (slot_at (memory_state self.new).slots slot) }
+        ensures memory { IsErrOf result PutStop.Memory
+            → Rose (memory_state self.old).shorts (memory_state self.new).shorts }
         ensures kept { IsErrOf result PutStop.Memory → (memory_state self.new).slots ≡ (memory_state self.old).slots }
         ensures counted { CountsPut result slot (memory_state self.old) (memory_state self.new) }
         ensures asked { (memory_state self.new).begins ≡ (memory_state self.old).begins }
         ensures same { OnlySlot slot (memory_state self.old) (memory_state self.new) }
 
         // Exactly what it answers, and what it leaves.
-        ensures answer { MatchOption (taken_next (memory_view self.old)) (IsOkUnless result PutStop.Memory) (λ _. (result ≡ Err PutStop.Failed) ⊎ (result ≡ Err PutStop.Memory)) }
-        ensures after { memory_view self.new ≡ called (after_put result slot (part_of (taken_next (memory_view self.old)) piece.now)) (memory_view self.old) }
+        ensures answer { MatchOption (taken_next (memory_view self.old)) (IsOkUnless result PutStop.Memory)
+            (λ _. (result ≡ Err PutStop.Failed) ⊎ (result ≡ Err PutStop.Memory)) }
+        ensures after { memory_view self.new
+            ≡ called (after_put result slot (part_of (taken_next (memory_view self.old)) piece.now))
+            (memory_view self.old) }
     {
         self.calls = self.calls.saturating_add(1);
         let taken = taken_at(self.calls, &self.failing);
-        self.slots
-            .at_mut(slot)
-            .put(taken, &mut self.shorts, piece)
+        self.slots.at_mut(slot).put(taken, &mut self.shorts, piece)
     }
 }

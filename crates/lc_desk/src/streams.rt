@@ -54,7 +54,8 @@ pub(crate) fn read_within<F: Read>(
     requires { length into.old.items ≤ limit }
     ensures within { OnOk result (length into.new.items ≤ limit) }
     ensures bytes { OnOk result (IfSome (F.remaining file.old) (λ left. into.new.items ≡ into.old.items ++ left)) }
-    ensures long { IsErrOf result ReadStop.Long → IfSome (F.remaining file.old) (λ left. limit < length into.old.items + length left) }
+    ensures long { IsErrOf result ReadStop.Long
+        → IfSome (F.remaining file.old) (λ left. limit < length into.old.items + length left) }
     ensures present { IsErrOf result ReadStop.Absent → ⊥ }
 {
     let mut buffer = [0u8; CHUNK];

@@ -109,7 +109,8 @@ impl Tally {
     pub(crate) fn begin(&mut self, slot: Slot, name: &str, outcome: Result<(), PutStop>)
         ensures begun { OnOk outcome (IsTrue (slot_at (tally_state self.new).slots slot).begun) }
         ensures kept { OnErr outcome ((tally_state self.new).slots ≡ (tally_state self.old).slots) }
-        ensures failed { IsErrOf outcome PutStop.Failed → Rose (slot_at (tally_state self.old).faults.puts slot) (slot_at (tally_state self.new).faults.puts slot) }
+        ensures failed { IsErrOf outcome PutStop.Failed
+            → Rose (slot_at (tally_state self.old).faults.puts slot) (slot_at (tally_state self.new).faults.puts slot) }
         ensures memory { IsErrOf outcome PutStop.Memory → Rose self.old.shorts self.new.shorts }
         ensures same { OnlySlot slot (tally_state self.old) (tally_state self.new) }
         ensures after { tally_state self.new ≡ after_begin outcome slot name.now (tally_state self.old) }
@@ -121,7 +122,8 @@ impl Tally {
     // Counts a put, where it was refused.
     pub(crate) fn put(&mut self, slot: Slot, outcome: Result<(), PutStop>)
         ensures kept { (tally_state self.new).slots ≡ (tally_state self.old).slots }
-        ensures failed { IsErrOf outcome PutStop.Failed → Rose (slot_at (tally_state self.old).faults.puts slot) (slot_at (tally_state self.new).faults.puts slot) }
+        ensures failed { IsErrOf outcome PutStop.Failed
+            → Rose (slot_at (tally_state self.old).faults.puts slot) (slot_at (tally_state self.new).faults.puts slot) }
         ensures memory { IsErrOf outcome PutStop.Memory → Rose self.old.shorts self.new.shorts }
         ensures same { OnlySlot slot (tally_state self.old) (tally_state self.new) }
         ensures after { tally_state self.new ≡ after_put outcome slot [] (tally_state self.old) }

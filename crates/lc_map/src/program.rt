@@ -103,8 +103,8 @@ pub fn run<D: Desk>(alloc: Global, words: &[&str], desk: &mut D) -> Status
     // The usage is told exactly where the words are no order.
     ensures usage { (result ≡ Status.Usage) ↔ (order_of (texts words.now) ≡ None) }
 
-    // It stops before the picture is begun where the record has a fault, is absent or is too long, for a fault of a read
-    // or for want of memory, each with its cause.
+    // It stops before the picture is begun where the record has a fault, is absent or is too long, for a fault of a
+    // read or for want of memory, each with its cause.
     ensures stopped { (stop : StopValue) → result ≡ Status.Stopped stop →
         Stops (texts words.now) stop (D.state desk.old) (D.state desk.new) }
 

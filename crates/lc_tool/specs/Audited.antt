@@ -45,7 +45,8 @@ pub record AuditHolds (step : ℕ) (world : World) (text : List ℕ) (before now
   pub lines : List Answer
   pub whole : IsTextOf (header_of world.job) lines text
   pub hold : (k : ℕ) → k % step ≡ 0 → LineHolds world.scene world.job lines k
-  pub told : now.slots.report ≡ appended (yes_line (length (looked_at world.scene world.job lines step))) before.slots.report
+  pub told : now.slots.report
+      ≡ appended (yes_line (length (looked_at world.scene world.job lines step))) before.slots.report
 
 -- The bytes are the text of a record with the header of the job and these lines, and one of those whose number the step
 -- divides does not hold: the one that the definition of the verdict names.

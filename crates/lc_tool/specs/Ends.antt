@@ -21,7 +21,8 @@ use Rattle.lc_tool.specs.Stopped.{Gave, NoReadCounted, ReadsFirst, StoppedBy, Is
 use Rattle.lc_tool.specs.Status.{code}
 
 -- what is to be written was read off the files: nothing but reads came before, and all calls are on these slots
-pub record Began (slots : List Slot) (course : Option (Course Work)) (work : Work) (before start : DeskState) : Type 0 where
+pub record Began (slots : List Slot) (course : Option (Course Work)) (work : Work)
+    (before start : DeskState) : Type 0 where
   pub on : AreOn slots work.calls
   pub reads : OnlyReads before start
   pub counts : NoReadCounted before start
@@ -40,7 +41,8 @@ write_line frame.Memory = memory_line
 write_line (frame.Write slot) = write_fault_line slot
 
 -- the calls were made up to one that was refused, and Note has gained the line of that
-pub record BrokenBy (stop : FrameStop) (slots : List Slot) (course : Option (Course Work)) (before now : DeskState) : Type 0 where
+pub record BrokenBy (stop : FrameStop) (slots : List Slot) (course : Option (Course Work))
+    (before now : DeskState) : Type 0 where
   pub work : Work
   pub start : DeskState
   pub began : Began slots course work before start
@@ -99,7 +101,8 @@ HasFailed words slot before now =
 -- no fault of a read or of a slot that the outcome writes was counted
 pub record IsFaultless (course : Course Work) (before now : DeskState) : Type 0 where
   pub reads : ¬ Rose before.faults.reads now.faults.reads
-  pub slots : (slot : Slot) → Contains (map slot_of (calls_of course.end)) slot → ¬ Rose (slot_at before.faults.puts slot) (slot_at now.faults.puts slot)
+  pub slots : (slot : Slot) → Contains (map slot_of (calls_of course.end)) slot
+      → ¬ Rose (slot_at before.faults.puts slot) (slot_at now.faults.puts slot)
 
 -- the status is that of the outcome, or there was no memory
 abbrev pub IsComplete : List (List ℕ) → ℕ → DeskState → DeskState → Type 0

@@ -49,7 +49,8 @@ long_line limit name = name ++ (codes ": longer than " ++ decimal limit ++ codes
 -- a sample and a channel, with the sum over all lights, the estimate and the bound there
 unfoldable pub miss_words : Miss → List ℕ
 miss_words miss =
-    codes " sample " ++ decimal miss.sample ++ codes " channel " ++ decimal (channel_number miss.channel) ++ codes " plain " ++ decimal miss.plain
+    codes " sample " ++ decimal miss.sample ++ codes " channel " ++ decimal
+    (channel_number miss.channel) ++ codes " plain " ++ decimal miss.plain
     ++ codes " est " ++ decimal miss.est ++ codes " bound " ++ decimal miss.bound ++ codes "\n"
 
 -- the first sample and channel where a recorded bound does not hold

@@ -274,7 +274,8 @@ audit_course name step files = and_then (world_of name files) (λ world. audit_w
 -- with the lights of made texts
 abbrev pub made_lit : Made → Job → Mesh → List Material → Course World
 made_lit made job mesh items =
-    and_then (lights_text (codes "made.lights") job.seed made.lights) (λ lights. at_once (Ok (world_by job mesh items lights)))
+    and_then (lights_text (codes "made.lights") job.seed made.lights)
+    (λ lights. at_once (Ok (world_by job mesh items lights)))
 
 -- with their materials
 abbrev pub made_furnished : Made → Job → Mesh → Course World
@@ -292,7 +293,9 @@ made_world made = and_then (job_text (codes "made.txt") made.job) (λ job. made_
 -- the picture and the record of a world, and a line in short
 unfoldable pub make_work : ℕ → World → Work
 make_work number world = record {
-  calls = render_calls world.job (answers_of world.job world.scene) ++ put Report (summary_line number (samples (answers_of world.job world.scene))) ∷ [];
+  calls =
+      render_calls world.job (answers_of world.job world.scene) ++ put Report
+      (summary_line number (samples (answers_of world.job world.scene))) ∷ [];
   evals = evals_of (samples (answers_of world.job world.scene));
 }
 

@@ -13,7 +13,8 @@ use Rattle.lc_tool.specs.Words.{Command, probe, render, plain as plain_words, au
 -- Report has gained one line, and each other slot is as it was. The line is the answer of the chosen cut. Its estimate
 -- differs from the sum over all lights of the file by at most its bound, and its bound is within the permille of the
 -- estimate unless the cut has the greatest size. The counter rose by the evaluations, at most twice that size
-pub record ProbeRecorded (name : List ℕ) (place direction : Vec3) (files : Files) (before now : DeskState) (steps_before steps_now : ℕ) : Type 0 where
+pub record ProbeRecorded (name : List ℕ) (place direction : Vec3) (files : Files) (before now : DeskState)
+    (steps_before steps_now : ℕ) : Type 0 where
   pub text : List ℕ
   pub read : files name ≡ Some text
   pub right : fault_in text ≡ None

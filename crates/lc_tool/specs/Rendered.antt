@@ -67,7 +67,9 @@ recorded world = samples (answers_of world.job world.scene)
 -- triangle, by at most the recorded bound
 abbrev pub AreNear : World → Type 0
 AreNear world =
-    All (λ ray. IsNear (light_of world.scene ray) (sample_of world.job.cut world.job.permille world.job.rule world.scene ray)) (flat (flat (picture_rays world.job.camera)))
+    All (λ ray. IsNear (light_of world.scene ray)
+    (sample_of world.job.cut world.job.permille world.job.rule world.scene ray))
+    (flat (flat (picture_rays world.job.camera)))
 
 -- at each sample the recorded bound is within the permille of the estimate, unless the cut has the greatest size
 abbrev pub AreFractions : World → Type 0
@@ -83,17 +85,21 @@ pub record AreCounted (world : World) (steps_before steps_now : ℕ) : Type 0 wh
 -- the record's file has exactly the record of the answers, under the job's name
 abbrev pub HasRecord : World → DeskState → DeskState → Type 0
 HasRecord world before now =
-    now.slots.bounds ≡ appended (record_text world.job (answers_of world.job world.scene)) (opened world.job.bounds before.slots.bounds)
+    now.slots.bounds ≡ appended (record_text world.job (answers_of world.job world.scene))
+    (opened world.job.bounds before.slots.bounds)
 
 -- the picture's file has exactly the picture of the answers' estimates, under the job's name
 abbrev pub HasPicture : World → DeskState → DeskState → Type 0
 HasPicture world before now =
-    now.slots.picture ≡ appended (picture_text world.job (answers_of world.job world.scene)) (opened world.job.picture before.slots.picture)
+    now.slots.picture ≡ appended (picture_text world.job (answers_of world.job world.scene))
+    (opened world.job.picture before.slots.picture)
 
 -- each file is as it was, or was begun under the job's name and has a first part of those bytes
 pub record LeavesParts (world : World) (before now : DeskState) : Type 0 where
-  pub picture : LeftPart world.job.picture (picture_text world.job (answers_of world.job world.scene)) before.slots.picture now.slots.picture
-  pub bounds : LeftPart world.job.bounds (record_text world.job (answers_of world.job world.scene)) before.slots.bounds now.slots.bounds
+  pub picture : LeftPart world.job.picture
+      (picture_text world.job (answers_of world.job world.scene)) before.slots.picture now.slots.picture
+  pub bounds : LeftPart world.job.bounds
+      (record_text world.job (answers_of world.job world.scene)) before.slots.bounds now.slots.bounds
 
 -- ---- make
 
@@ -113,11 +119,13 @@ LeavesSummary number world before now =
 -- triangle, under the job's name
 abbrev pub HasPlainPicture : World → DeskState → DeskState → Type 0
 HasPlainPicture world before now =
-    now.slots.picture ≡ appended (plain_picture world.job (plain_lights world.job world.scene)) (opened world.job.picture before.slots.picture)
+    now.slots.picture ≡ appended (plain_picture world.job (plain_lights world.job world.scene))
+    (opened world.job.picture before.slots.picture)
 
 -- the picture's file is as it was, or was begun under the job's name and has a first part of those bytes; the record's
 -- file and Report are as they were
 pub record LeavesPlainPart (world : World) (before now : DeskState) : Type 0 where
-  pub picture : LeftPart world.job.picture (plain_picture world.job (plain_lights world.job world.scene)) before.slots.picture now.slots.picture
+  pub picture : LeftPart world.job.picture
+      (plain_picture world.job (plain_lights world.job world.scene)) before.slots.picture now.slots.picture
   pub bounds : now.slots.bounds ≡ before.slots.bounds
   pub report : now.slots.report ≡ before.slots.report

@@ -49,7 +49,8 @@ pub record Went {A : Type 0} (course : Option (Course A)) (a : A) (before now : 
 -- a text's first fault, or a required keyword that a job lacks
 abbrev pub IsFaultLine : Source → List ℕ → Type 0
 IsFaultLine source.Job line =
-    (name : List ℕ) × (((n : ℕ) × (kind : ℕ) × (line ≡ fault_line name n kind)) ⊎ ((key : Key) × (line ≡ missing_line name key)))
+    (name : List ℕ) × (((n : ℕ) × (kind : ℕ) × (line ≡ fault_line name n kind))
+    ⊎ ((key : Key) × (line ≡ missing_line name key)))
 IsFaultLine source.Scene line = (name : List ℕ) × (n : ℕ) × (kind : ℕ) × (line ≡ fault_line name n kind)
 IsFaultLine source.Library line = (name : List ℕ) × (n : ℕ) × (kind : ℕ) × (line ≡ fault_line name n kind)
 IsFaultLine source.Lights line = (name : List ℕ) × (n : ℕ) × (kind : ℕ) × (line ≡ fault_line name n kind)
@@ -80,7 +81,8 @@ pub record Reaches {A : Type 0} (line : List ℕ) (course : Course A) : Type 0 w
   pub read : Contains course.reads name
 
 -- the course refuses with this status and this line, and its files were read
-pub record RefusedBy {A : Type 0} (status : ℕ) (line : List ℕ) (before now : DeskState) (course : Course A) : Type 0 where
+pub record RefusedBy {A : Type 0} (status : ℕ) (line : List ℕ) (before now : DeskState)
+    (course : Course A) : Type 0 where
   pub end : course.end ≡ refuses status line
   pub read : Reads course.reads before now
 

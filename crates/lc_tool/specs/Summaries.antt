@@ -8,7 +8,8 @@ use Rattle.lc_frame.specs.declared.summary.Summary.{Summary}
 -- how many lights, triangles and samples there are, how many nodes the cuts have in all, and their greatest bound
 unfoldable pub summary_bytes : ℕ → Summary → List ℕ
 summary_bytes number summary =
-    codes "lights " ++ decimal (light_count number) ++ codes " triangles " ++ decimal (triangle_count number) ++ codes " samples " ++ decimal sample_count
+    codes "lights " ++ decimal (light_count number) ++ codes " triangles " ++ decimal
+    (triangle_count number) ++ codes " samples " ++ decimal sample_count
     ++ codes " cut " ++ decimal summary.sizes ++ codes "/" ++ decimal sample_count ++ codes " bound " ++ decimal summary.largest ++ codes "\n"
 
 -- the line of the answers at the samples of the picture

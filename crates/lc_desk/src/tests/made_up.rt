@@ -1,4 +1,5 @@
-// A system and printers that tests make up. They note what they are asked, move one byte at a call, and fail where told.
+// A system and printers that tests make up. They note what they are asked, move one byte at a call, and fail where
+// told.
 ghost use Rattle.std.specs.Prelude.{◌≤◌, IfOk};
 
 use std::alloc::{Allocator, Global};

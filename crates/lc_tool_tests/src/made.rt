@@ -77,10 +77,14 @@ fn makes_scenes(rt: HostRuntime) {
 fn desk_with_texts(alloc: Global) -> Result<MemoryDesk, Memory> {
     let made = make(alloc, 3)?;
     let mut desk = MemoryDesk::new(alloc);
-    desk.add("made.txt", made.job.as_slice())?;
-    desk.add("made.obj", made.obj.as_slice())?;
-    desk.add("made.mtl", made.mtl.as_slice())?;
-    desk.add("made.lights", made.lights.as_slice())?;
+    for (name, text) in [
+        ("made.txt", &made.job),
+        ("made.obj", &made.obj),
+        ("made.mtl", &made.mtl),
+        ("made.lights", &made.lights),
+    ] {
+        desk.add(name, text.as_slice())?;
+    }
     Ok(desk)
 }
 
@@ -118,8 +122,11 @@ fn in_range(place: Vec3) -> bool
 fn valid(tri: Tri) -> Option<Tri>
     ensures { IfSome result IsTri }
 {
-    let Tri { a, b, c } = tri;
-    (in_range(a) && in_range(b) && in_range(c)).then_some(tri)
+    if in_range(tri.a) && in_range(tri.b) && in_range(tri.c) {
+        Some(tri)
+    } else {
+        None
+    }
 }
 
 /// The triangles of a mesh.

@@ -14,7 +14,7 @@ pub(crate) const LIGHT: &str = "point 0 0 1.0016 1 1 1\n";
 
 const PICTURE: &[u8] = b"P6\n1 1\n255\n\xE4\xE4\xE4";
 
-const WHITE: &[u8] = b"P6\n1 1\n255\n\xFF\xFF\xFF";
+pub(crate) const WHITE: &[u8] = b"P6\n1 1\n255\n\xFF\xFF\xFF";
 
 const RECORD: &str =
     "LCB 1 1 1 1 1000 20\n1 1 5242880000000000000000 5242880000000000000000 5242880000000000000000 0 0 0\n";
@@ -121,11 +121,12 @@ const DARK: Case = Case {
     ..REFUSED
 };
 
-/// Three numbers above 0.
-fn are_positive(bounds: &[u8]) -> bool {
-    bounds.split(|byte| *byte == b' ').count() == 3
-        && bounds
+/// A record with an estimate of 0 and three bounds above it.
+fn is_dark(record: &[u8]) -> bool {
+    record.starts_with(b"LCB 1 1 1 1 3 20\n3 3 0 0 0 ")
+        && record
             .split(|byte| *byte == b' ')
+            .skip(11)
             .all(|bound| !bound.starts_with(b"0"))
 }
 
@@ -134,11 +135,7 @@ fn renders_a_dark_scene(rt: HostRuntime) -> Result<(), Fail> {
     let mut desk = desk_of(rt.alloc(), &DARK)?;
     assert_eq!(rt; serve(rt.alloc(), DARK.words, &mut desk), 0);
     assert!(rt; desk.told(Slot::Picture) == b"P6\n1 1\n255\n\0\0\0".as_slice());
-    let record = desk.told(Slot::Bounds);
-    let Some(bounds) = record.strip_prefix(b"LCB 1 1 1 1 3 20\n3 3 0 0 0 ") else {
-        panic!(&rt; "a record");
-    };
-    assert!(rt; are_positive(bounds));
+    assert!(rt; is_dark(desk.told(Slot::Bounds)));
     Ok(())
 }
 

@@ -1,4 +1,0 @@
-use Rattle.lc_tool_tests.proofs.shades.light.Given as goal
-
-abbrev pub ghosts-count : goal.ghosts-count
-ghosts-count a = record { name = a.blank.name; parts = a.blank.parts }

@@ -1,5 +1,5 @@
 // The command `audit`.
-ghost use Rattle.std.specs.Prelude.{◌≤◌, [], ◌∷◌, IfOk, Some};
+ghost use Rattle.std.specs.Prelude.{[], ◌∷◌, IfOk, Some};
 ghost use Rattle.lc_audit.specs.declared.verdict.Verdict.TheVariants.{Yes};
 ghost use Rattle.lc_desk.specs.declared.desk.Slot.TheVariants.{Report};
 ghost use Rattle.lc_job.specs.Jobs.{IsJob};
@@ -11,6 +11,7 @@ ghost use Rattle.lc_tool.specs.Stopped.{GoesAs, ReadsAs, StopsAs, StopsReading};
 
 use crate::fixed::append;
 use crate::note::{note_fault, note_miss};
+use crate::ranges::AuditStep;
 use crate::read::read_record_file;
 use crate::status::{Source, Status, Stop};
 use crate::world::{World, read_world};
@@ -74,13 +75,12 @@ fn report_yes<D: Desk>(checked: u64, desk: &mut D) -> Status
 }
 
 /// Tells the verdict on a record of a world: yes on Report, no on Note.
-fn judge<D: Desk>(world: &World, kept: &Record, step: u64, desk: &mut D) -> Status
+fn judge<D: Desk>(world: &World, kept: &Record, step: AuditStep, desk: &mut D) -> Status
     requires job { IsJob world.now.job }
     requires lines { AreLinesFor world.now.job kept.now.lines }
-    requires step { 1 ≤ step }
     ensures { Ends result (Report ∷ []) (Some (audited step world.now kept.now)) (D.state desk.old) (D.state desk.new) }
 {
-    match lc_audit::audit(&world.scene, &world.job, kept, step) {
+    match lc_audit::audit(&world.scene, &world.job, kept, step.samples) {
         Verdict::Yes { checked } => report_yes(checked, desk),
         Verdict::No(miss) => {
             note_miss(desk, &miss);
@@ -90,9 +90,8 @@ fn judge<D: Desk>(world: &World, kept: &Record, step: u64, desk: &mut D) -> Stat
 }
 
 /// Audits the record of a world's job.
-fn audit_record<D: Desk>(alloc: Global, world: &World, step: u64, desk: &mut D) -> Status
+fn audit_record<D: Desk>(alloc: Global, world: &World, step: AuditStep, desk: &mut D) -> Status
     requires job { IsJob world.now.job }
-    requires step { 1 ≤ step }
     ensures { EndsAs result (Report ∷ []) (audit_world step world.now) (D.state desk.old) (D.state desk.new) }
 {
     match read_kept(alloc, &world.job, desk) {
@@ -103,8 +102,7 @@ fn audit_record<D: Desk>(alloc: Global, world: &World, step: u64, desk: &mut D) 
 
 /// Audits the record of a job's file: computes the sum over all lights at each sample whose number the step divides,
 /// and says whether what its line tells of it holds.
-pub fn audit<D: Desk>(alloc: Global, name: &str, step: u64, desk: &mut D) -> Status
-    requires { 1 ≤ step }
+pub fn audit<D: Desk>(alloc: Global, name: &str, step: AuditStep, desk: &mut D) -> Status
     ensures ends { EndsAs result (Report ∷ []) (audit_course name.now step) (D.state desk.old) (D.state desk.new) }
 {
     match read_world(alloc, name, desk) {

@@ -10,6 +10,7 @@ mod parse;
 mod plain;
 mod probe;
 mod program;
+mod ranges;
 mod read;
 mod render;
 mod status;

@@ -1,5 +1,5 @@
 // The command `make`.
-ghost use Rattle.std.specs.Prelude.{◌≤◌, IfOk, Ok, Some};
+ghost use Rattle.std.specs.Prelude.{IfOk, Ok, Some};
 ghost use Rattle.lc_job.specs.Jobs.{IsJob};
 ghost use Rattle.lc_make.specs.Made.{AreShort};
 ghost use Rattle.lc_tool.specs.Course.{at_once};
@@ -9,6 +9,7 @@ ghost use Rattle.lc_tool.specs.Stopped.{GoesAs, StopsAs};
 
 use crate::note::note_memory;
 use crate::parse::{parse_job, parse_library, parse_lights, parse_scene};
+use crate::ranges::SceneNumber;
 use crate::status::{Status, Stop};
 use crate::summary::put_summary;
 use crate::world::{World, join_world};
@@ -63,14 +64,14 @@ fn write_made<D: Desk, L: Ledger>(
 /// no file.
 pub fn make<D: Desk, L: Ledger>(
     alloc: Global,
-    number: u32,
+    number: SceneNumber,
     desk: &mut D,
     steps: &mut Steps<L>,
 ) -> Status
-    requires { number ≤ 9999 }
     ensures ends { Ends result made_files (Some (make_course number)) (D.state desk.old) (D.state desk.new) }
     ensures counted { Counts result (Some (make_course number)) steps.old steps.new }
 {
+    let SceneNumber { number } = number;
     let Ok(made) = lc_make::make(alloc, number) else {
         note_memory(desk);
         return Status::Stopped(Stop::Memory);

@@ -1,6 +1,5 @@
 // The command `probe`.
 ghost use Rattle.std.specs.Prelude.{◌≡◌, ◌+◌, [], ◌∷◌, IfOk, Ok, Some};
-ghost use Rattle.lc_num.specs.Vectors.{Within};
 ghost use Rattle.lc_light.specs.Lights.{AreLights};
 ghost use Rattle.lc_terms.specs.Spot.{IsSpot};
 ghost use Rattle.lc_desk.specs.declared.desk.Slot.TheVariants.{Report};
@@ -10,6 +9,7 @@ ghost use Rattle.lc_tool.specs.Outcome.{probe_spot, probe_answer, probe_course, 
 ghost use Rattle.lc_tool.specs.Ends.{Ends, Counts, EndsAs};
 
 use crate::note::note_memory;
+use crate::ranges::Coordinates;
 use crate::read::read_light_file;
 use crate::status::{Status, Stop};
 use crate::write::{put_report, settle};
@@ -32,15 +32,13 @@ const WHITE: Colour = Colour {
 const BLACK: Colour = Colour { r: 0, g: 0, b: 0 };
 
 /// A matte white spot at the place, with a normal in the direction.
-fn spot_at(place: Vec3, direction: Vec3) -> Spot
-    requires place { Within 50_000_000 place }
-    requires direction { Within 50_000_000 direction }
+fn spot_at(place: Coordinates, direction: Coordinates) -> Spot
     ensures value { result ≡ probe_spot place direction }
     ensures valid { IsSpot result }
 {
     Spot {
-        x: place,
-        n: scaled(direction, 16_384),
+        x: place.vector,
+        n: scaled(direction.vector, 16_384),
         r: Vec3 { x: 0, y: 0, z: 0 },
         kd: WHITE,
         ks: BLACK,
@@ -57,13 +55,11 @@ const ASK: Ask = Ask {
 /// The light of a file's lights at a spot, with no triangle between them.
 fn answer_at<L: Ledger>(
     alloc: Global,
-    place: Vec3,
-    direction: Vec3,
+    place: Coordinates,
+    direction: Coordinates,
     lights: &Lights,
     steps: &mut Steps<L>,
 ) -> Result<Answer, Memory>
-    requires place { Within 50_000_000 place }
-    requires direction { Within 50_000_000 direction }
     requires lights { AreLights lights.now }
     ensures value { IfOk result (λ answer. answer ≡ probe_answer place direction lights.now) }
     ensures sample { IfOk result (IsSample 65_536) }
@@ -94,13 +90,11 @@ fn report<D: Desk>(answer: &Answer, desk: &mut D) -> Status
 pub fn probe<D: Desk, L: Ledger>(
     alloc: Global,
     name: &str,
-    place: Vec3,
-    direction: Vec3,
+    place: Coordinates,
+    direction: Coordinates,
     desk: &mut D,
     steps: &mut Steps<L>,
 ) -> Status
-    requires place { Within 50_000_000 place }
-    requires direction { Within 50_000_000 direction }
     ensures ends { EndsAs result (Report ∷ []) (probe_course name.now place direction)
         (D.state desk.old) (D.state desk.new) }
     ensures counted { Counts result (told (probe_course name.now place direction) (D.state desk.old).held)

@@ -2,20 +2,20 @@
 ghost use Rattle.std.specs.Prelude.{◌≡◌, ◌≤◌, option_map, IfSome, unsigned_abs};
 ghost use Rattle.lc_scan.specs.Whole.{whole_of};
 ghost use Rattle.lc_tool.specs.Words.{command_of, audit_of, probe_of, make_of, coordinate, vector_of, texts};
-ghost use Rattle.lc_num.specs.Vectors.{Within};
-ghost use Rattle.lc_tool.specs.Meant.{meant, IsInRange};
+ghost use Rattle.lc_tool.specs.Meant.{meant};
 
+use crate::ranges::{AuditStep, Coordinates, SceneNumber};
 use lc_num::Vec3;
 use lc_scan::{decimal, whole};
 
 /// A command.
-#[derive(Clone, Copy)]
+#[derive(Drop)]
 pub enum Command<'a> {
     /// The light of a light file at a place, for a normal in a direction.
     Probe {
         lights: &'a str,
-        place: Vec3,
-        direction: Vec3,
+        place: Coordinates,
+        direction: Coordinates,
     },
     /// The picture and the record of a job.
     Render {
@@ -28,11 +28,11 @@ pub enum Command<'a> {
     /// The check of a job's record at each sample whose number the step divides.
     Audit {
         job: &'a str,
-        step: u64,
+        step: AuditStep,
     },
     /// The picture and the record of the scene that is made of a number.
     Make {
-        number: u32,
+        number: SceneNumber,
     },
 }
 
@@ -56,26 +56,24 @@ fn coordinate(word: &str) -> Option<i64>
     }
 }
 
-fn vector(x: &str, y: &str, z: &str) -> Option<Vec3>
+fn vector(x: &str, y: &str, z: &str) -> Option<Coordinates>
     ensures value { result ≡ vector_of (coordinate x.now) (coordinate y.now) (coordinate z.now) }
-    ensures within { IfSome result (Within 50_000_000) }
 {
     let x = coordinate(x)?;
     let y = coordinate(y)?;
     let z = coordinate(z)?;
-    Some(Vec3 { x, y, z })
+    Some(Coordinates {
+        vector: Vec3 { x, y, z },
+    })
 }
 
-/// The command `probe`, where its two vectors are in range.
+/// The command `probe`, where its two vectors are some.
 fn probe_command<'a>(
     lights: &'a str,
-    place: Option<Vec3>,
-    direction: Option<Vec3>,
+    place: Option<Coordinates>,
+    direction: Option<Coordinates>,
 ) -> Option<Command<'a>>
-    requires place { IfSome place (Within 50_000_000) }
-    requires direction { IfSome direction (Within 50_000_000) }
     ensures value { option_map meant result ≡ probe_of lights.now place direction }
-    ensures range { IfSome result IsInRange }
 {
     Some(Command::Probe {
         lights,
@@ -87,10 +85,12 @@ fn probe_command<'a>(
 /// The command `audit`, where its step is one.
 fn audit_command<'a>(job: &'a str, step: &str) -> Option<Command<'a>>
     ensures value { option_map meant result ≡ audit_of job.now (whole_of step.now) }
-    ensures range { IfSome result IsInRange }
 {
     match whole(step.as_bytes()) {
-        Ok(step) if 1 <= step && step <= LAST_STEP => Some(Command::Audit { job, step }),
+        Ok(samples) if 1 <= samples && samples <= LAST_STEP => Some(Command::Audit {
+            job,
+            step: AuditStep { samples },
+        }),
         _ => None,
     }
 }
@@ -98,11 +98,12 @@ fn audit_command<'a>(job: &'a str, step: &str) -> Option<Command<'a>>
 /// The command `make`, where its number is one.
 fn make_command<'a>(number: &str) -> Option<Command<'a>>
     ensures value { option_map meant result ≡ make_of (whole_of number.now) }
-    ensures range { IfSome result IsInRange }
 {
     match whole(number.as_bytes()) {
         Ok(number) if number <= LAST_SCENE => Some(Command::Make {
-            number: number as u32,
+            number: SceneNumber {
+                number: number as u32,
+            },
         }),
         _ => None,
     }
@@ -111,7 +112,6 @@ fn make_command<'a>(number: &str) -> Option<Command<'a>>
 /// The command that the words are.
 pub fn read_words<'a>(words: &[&'a str]) -> Option<Command<'a>>
     ensures value { option_map meant result ≡ command_of (texts words.now) }
-    ensures range { IfSome result IsInRange }
 {
     match words {
         [word, lights, x, y, z, nx, ny, nz] if *word == "probe" => {

@@ -190,8 +190,6 @@ impl Desk for MemoryDesk {
     {
         self.calls = self.calls.saturating_add(1);
         let taken = taken_at(self.calls, &self.failing);
-        self.slots
-            .at_mut(slot)
-            .put(taken, &mut self.shorts, piece)
+        self.slots.at_mut(slot).put(taken, &mut self.shorts, piece)
     }
 }

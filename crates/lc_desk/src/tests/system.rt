@@ -226,7 +226,10 @@ fn prints_each_stream_on_its_own(rt: HostRuntime) {
     );
     assert_eq!(rt; errors.take(rt.alloc()).as_slice(), b"a.txt: ".as_slice());
     assert_eq!(rt; files.take(rt.alloc()).len(), 0);
-    assert_eq!(rt; (desk.tally.slots.report.faults, desk.tally.slots.note.faults), (0, 1));
+    assert_eq!(rt;
+        (desk.tally.slots.report.faults, desk.tally.slots.note.faults),
+        (0, 1)
+    );
 }
 
 #[test]

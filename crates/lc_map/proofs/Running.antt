@@ -3,7 +3,8 @@ use Rattle.std.proofs.Common.{◌≡◌, ◌≢◌, ◌⊎◌, ◌↔◌, ℕ, z
 use Rattle.std.proofs.lemmas.List.Elements.{All-nil, All-cons}
 use Rattle.lc_num.specs.Faults.{Fault}
 use Rattle.lc_desk.specs.Calls.{Made, after_calls, begins_of}
-use Rattle.lc_desk.specs.Desk.{DeskState, Files, fault_at}
+use Rattle.lc_desk.specs.Desk.{DeskState, Files, no_faults}
+use Rattle.lc_desk.specs.Slots.{slot_at}
 use Rattle.lc_desk.specs.Causes.{Rose}
 use Rattle.lc_desk.specs.declared.desk.Slot.{Slot}
 use Rattle.lc_desk.specs.declared.desk.Slot.TheVariants.{Picture, Bounds, Report, Note}
@@ -17,7 +18,7 @@ use Rattle.lc_record.specs.Readings.{record_in}
 use Rattle.lc_record.specs.declared.reader.Record.{Record}
 use Rattle.lc_record.proofs.Told.{text_read, text_told}
 use Rattle.lc_tool.specs.Course.{Course, at_once, told}
-use Rattle.lc_tool.specs.Ends.{BrokenBy, Ends, Finished, OpensOnly, SameOutputs, no_faults, write_line}
+use Rattle.lc_tool.specs.Ends.{BrokenBy, Ends, Finished, OpensOnly, SameOutputs, write_line}
 use Rattle.lc_tool.specs.Lines.{record_limit}
 use Rattle.lc_tool.specs.Noted.{Noted, Said}
 use Rattle.lc_tool.specs.Outcome.{kept_of, kept_text, status_of, text_of, unless_wrong}
@@ -84,12 +85,12 @@ only_picture : (slot : Slot) → Contains picture_file slot → slot ≡ Picture
 only_picture slot (zero, lt, at) = sym at
 only_picture slot (suc k, lt, at) = absurd (omega arith)
 
-pub write_failed : (order : Option Order) (slot : Slot) (course : Option (Course Work)) (before now : DeskState) → Runs order (Unwritten (frame.Write slot)) course before now → (slot ≡ Picture) × Rose before.faults.picture now.faults.picture
+pub write_failed : (order : Option Order) (slot : Slot) (course : Option (Course Work)) (before now : DeskState) → Runs order (Unwritten (frame.Write slot)) course before now → (slot ≡ Picture) × Rose before.faults.puts.picture now.faults.puts.picture
 write_failed None slot course before now h = let u : Unwritten (frame.Write slot) ≡ Usage = h.usage in cc
 write_failed (Some order) slot course before now h =
     let f = by_failed alone (Unwritten (frame.Write slot)) course before now h refl in
     let on : Contains picture_file slot = subst (Contains picture_file) h.broke.1 (refused_on put_stop.Failed picture_file h.work.calls h.start h.mid h.began.on h.broke.0) in
-    (only_picture slot on, subst (λ s. Rose (fault_at before.faults s) (fault_at now.faults s)) (only_picture f.0 f.2.0) f.2.1)
+    (only_picture slot on, subst (λ s. Rose (slot_at before.faults.puts s) (slot_at now.faults.puts s)) (only_picture f.0 f.2.0) f.2.1)
 
 -- ---- the line on Note, and the outputs
 

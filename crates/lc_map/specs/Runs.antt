@@ -44,7 +44,7 @@ Breaks words stop before now = BrokenBy stop picture_file (outcome words before.
 
 -- the count of the picture's faults rose
 abbrev pub PictureFailed : DeskState → DeskState → Type 0
-PictureFailed before now = Rose before.faults.picture now.faults.picture
+PictureFailed before now = Rose before.faults.puts.picture now.faults.puts.picture
 
 -- no fault of a read or of the picture was counted
 pub record NoFaultCounted (before now : DeskState) : Type 0 where

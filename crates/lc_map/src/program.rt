@@ -8,7 +8,8 @@ ghost use Rattle.lc_frame.specs.declared.stop.FrameStop.{FrameStop as WriteStop}
 ghost use Rattle.lc_record.specs.declared.reader.Record.{Record as RecordValue};
 ghost use Rattle.lc_tool.specs.Audited.{IsRecord};
 ghost use Rattle.lc_tool.specs.Course.{at_once, told};
-ghost use Rattle.lc_tool.specs.Ends.{Ends, OpensOnly, SameOutputs, no_faults};
+ghost use Rattle.lc_desk.specs.Desk.{no_faults};
+ghost use Rattle.lc_tool.specs.Ends.{Ends, OpensOnly, SameOutputs};
 ghost use Rattle.lc_tool.specs.Noted.{Noted};
 ghost use Rattle.lc_tool.specs.Status.{code};
 ghost use Rattle.lc_tool.specs.Words.{texts};

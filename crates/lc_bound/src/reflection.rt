@@ -11,8 +11,6 @@ use crate::cosines::cosine_top;
 use lc_num::{Colour, Rule, Span3, pow16};
 use lc_terms::Spot;
 
-const NONE: Colour = Colour { r: 0, g: 0, b: 0 };
-
 /// How much of the diffuse and of the specular colour of a spot is sent back, each in 1/65536.
 #[derive(Clone, Copy, Debug)]
 pub struct Reflection {
@@ -31,7 +29,7 @@ fn highlight_top(spot: &Spot, span: Span3, least: u128, rule: Rule) -> u32
     ensures b { spot.now.ks.b * result ≡ spot.now.ks.b * pow16 (cosine_top rule spot.now.r span least) spot.now.ns }
     ensures most { result ≤ 65_536 }
 {
-    if spot.ks == NONE {
+    if spot.ks == Colour::BLACK {
         return 0;
     }
     pow16(cosine_top(spot.r, span, least, rule), spot.ns)

@@ -10,8 +10,6 @@ ghost use Rattle.lc_terms.specs.Spot.{IsSpot};
 use crate::spot::Spot;
 use lc_num::{Colour, Rgb, Vec3, cos16, pow16};
 
-const NONE: Colour = Colour { r: 0, g: 0, b: 0 };
-
 /// The highlight of a spot for light from `b`, in 1/65536. No specular colour makes use of it where it is black, and
 /// then it is not worked out.
 fn highlight(spot: &Spot, b: Vec3) -> u32
@@ -22,7 +20,7 @@ fn highlight(spot: &Spot, b: Vec3) -> u32
     ensures b { spot.now.ks.b * result ≡ spot.now.ks.b * pow16 (cos16 spot.now.r b) spot.now.ns }
     ensures most { result ≤ 65_536 }
 {
-    if spot.ks == NONE {
+    if spot.ks == Colour::BLACK {
         return 0;
     }
     pow16(cos16(spot.r, b), spot.ns)

@@ -29,8 +29,6 @@ const WHITE: Colour = Colour {
     b: 10_000,
 };
 
-const BLACK: Colour = Colour { r: 0, g: 0, b: 0 };
-
 /// A matte white spot at the place, with a normal in the direction.
 fn spot_at(place: Coordinates, direction: Coordinates) -> Spot
     ensures value { result ≡ probe_spot place direction }
@@ -41,7 +39,7 @@ fn spot_at(place: Coordinates, direction: Coordinates) -> Spot
         n: scaled(direction.vector, 16_384),
         r: Vec3 { x: 0, y: 0, z: 0 },
         kd: WHITE,
-        ks: BLACK,
+        ks: Colour::BLACK,
         ns: 0,
     }
 }

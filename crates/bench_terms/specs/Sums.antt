@@ -8,7 +8,7 @@ use Rattle.bench_terms.specs.declared.inputs.Pair.{Pair}
 abbrev pub length_sum : Offset → ℕ
 length_sum o =
     unsigned_abs (scaled o.vector 16384).x + unsigned_abs (scaled o.vector 16384).y + unsigned_abs
-        (scaled o.vector 16384).z
+    (scaled o.vector 16384).z
 
 abbrev pub cosine_of : Pair → ℕ
 cosine_of p = cos16 p.normal p.offset

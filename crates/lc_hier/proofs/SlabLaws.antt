@@ -38,18 +38,18 @@ module _ (whole : ℕ) (p q : ℤ) (n low high slack : ℕ) (below : low * n ≤
 
   -- as the code computes it
   module _ (hp : unsigned_abs p ≤ 50_100_000) (hq : unsigned_abs q ≤ 320_000_000) (size : n ≡ unsigned_abs (read w64 (read w64 q -ℤ read w64 p))) (ls : low ≤ 2 ^ 30) (hs : high ≤ 2 ^ 30 + 1) (ss : slack ≤ 2 ^ 12) where
-    pub made_forward : (slab : Slab) → int_lt (read w64 q) (read w64 p) ≡ false → slab.start ≡ read w64 p → slab.wide ≡ read w64 (read w64 p -ℤ to_z w64 slack) → slab.low ≡ to_z w64 low → slab.high ≡ to_z w64 high → slab.backward ≡ false → Serves whole p q slab
+    pub made_forward : (slab : Slab) → int_lt q p ≡ false → slab.start ≡ read w64 p → slab.wide ≡ read w64 (read w64 p -ℤ to_z w64 slack) → slab.low ≡ to_z w64 low → slab.high ≡ to_z w64 high → slab.backward ≡ false → Serves whole p q slab
     made_forward slab order es ew el eh eb =
         forward slab (omega (arith, ints, not_less order)) (omega (arith, ints, es)) (omega (arith, ints, ew)) (omega (arith, ints, el)) (omega (arith, ints, eh)) eb
       where
-        not_less : int_lt (read w64 q) (read w64 p) ≡ false → read w64 p ≤ℤ read w64 q
+        not_less : int_lt q p ≡ false → p ≤ℤ q
         not_less e = grind (arith, ints)
 
-    pub made_backward : (slab : Slab) → int_lt (read w64 q) (read w64 p) ≡ true → slab.start ≡ read w64 p → slab.wide ≡ read w64 (read w64 p +ℤ to_z w64 slack) → slab.low ≡ read w64 (pos 0 -ℤ to_z w64 low) → slab.high ≡ read w64 (pos 0 -ℤ to_z w64 high) → slab.backward ≡ true → Serves whole p q slab
+    pub made_backward : (slab : Slab) → int_lt q p ≡ true → slab.start ≡ read w64 p → slab.wide ≡ read w64 (read w64 p +ℤ to_z w64 slack) → slab.low ≡ read w64 (pos 0 -ℤ to_z w64 low) → slab.high ≡ read w64 (pos 0 -ℤ to_z w64 high) → slab.backward ≡ true → Serves whole p q slab
     made_backward slab order es ew el eh eb =
         backward slab (omega (arith, ints, less order)) (omega (arith, ints, es)) (omega (arith, ints, ew)) (omega (arith, ints, el)) (omega (arith, ints, eh)) eb
       where
-        less : int_lt (read w64 q) (read w64 p) ≡ true → read w64 q ≤ℤ read w64 p
+        less : int_lt q p ≡ true → q ≤ℤ p
         less e = grind (arith, ints)
 
 pub serves_read : (whole : ℕ) (p q : ℤ) (slab : Slab) → FitsSigned w64 p → FitsSigned w64 q → Serves whole (read w64 p) (read w64 q) slab → Serves whole p q slab

@@ -1,5 +1,5 @@
 // Segments, ready for boxes.
-ghost use Rattle.std.specs.Prelude.{◌≡◌, ◌+◌, ◌*◌, ◌^◌, ◌<◌, ◌≤◌, pos, ◌+ℤ◌, ◌-ℤ◌, IsTrue};
+ghost use Rattle.std.specs.Prelude.{◌≡◌, ◌+◌, ◌*◌, ◌^◌, ◌<◌, ◌≤◌, pos, ◌+ℤ◌, ◌-ℤ◌, IsTrue, int_lt};
 ghost use Rattle.lc_num.specs.Vectors.{Within};
 ghost use Rattle.lc_geom.specs.declared.triangle.Tri.{Tri};
 ghost use Rattle.lc_hier.specs.Boxes.{Holds};
@@ -68,6 +68,21 @@ impl Beam {
         ensures end { result.end ≡ q }
         ensures most { result.most ≡ 1_073_741_823 }
     {
+        Beam::toward(p, q, (q.x < p.x, q.y < p.y, q.z < p.z))
+    }
+
+    /// The same, where it is known on which axes the segment leads to lesser coordinates.
+    #[inline(always)]
+    pub(crate) fn toward(p: Vec3, q: Vec3, backward: (bool, bool, bool)) -> Beam
+        requires p { Within 50_100_000 p }
+        requires q { Within 320_000_000 q }
+        requires x { backward.0 ≡ int_lt q.x p.x }
+        requires y { backward.1 ≡ int_lt q.y p.y }
+        requires z { backward.2 ≡ int_lt q.z p.z }
+        ensures start { result.start ≡ p }
+        ensures end { result.end ≡ q }
+        ensures most { result.most ≡ 1_073_741_823 }
+    {
         let shift = shift_of(p, q);
         Beam {
             start: p,
@@ -75,9 +90,9 @@ impl Beam {
             most: WHOLE - 1,
             shift,
             last: last_of(WHOLE - 1, shift),
-            x: Slab::new(p.x, q.x, shift),
-            y: Slab::new(p.y, q.y, shift),
-            z: Slab::new(p.z, q.z, shift),
+            x: Slab::new(p.x, q.x, backward.0, shift),
+            y: Slab::new(p.y, q.y, backward.1, shift),
+            z: Slab::new(p.z, q.z, backward.2, shift),
         }
     }
 

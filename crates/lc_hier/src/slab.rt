@@ -1,5 +1,5 @@
 // One axis of a segment, ready for boxes.
-ghost use Rattle.std.specs.Prelude.{◌≡◌, ◌+◌, ◌*◌, ◌^◌, ◌<◌, ◌≤◌, ◌+ℤ◌, ◌-ℤ◌, ◌*ℤ◌, unsigned_abs, if◌then◌else◌};
+ghost use Rattle.std.specs.Prelude.{◌≡◌, ◌+◌, ◌*◌, ◌^◌, ◌<◌, ◌≤◌, ◌+ℤ◌, ◌-ℤ◌, ◌*ℤ◌, unsigned_abs, if◌then◌else◌, int_lt};
 
 /// A whole segment, in units of its depths.
 pub(crate) const WHOLE: u32 = 1 << 30;
@@ -68,11 +68,12 @@ impl Reciprocals {
 impl Slab {
     ghost use Rattle.lc_hier.specs.Slabs.{Serves};
 
-    /// From `p` to `q` on this axis.
+    /// From `p` to `q` on this axis, backward where `q` is less.
     #[inline(always)]
-    pub(crate) fn new(p: i64, q: i64, shift: u32) -> Slab
+    pub(crate) fn new(p: i64, q: i64, backward: bool, shift: u32) -> Slab
         requires p { unsigned_abs p ≤ 50_100_000 }
         requires q { unsigned_abs q ≤ 320_000_000 }
+        requires backward { backward ≡ int_lt q p }
         requires shift { shift ≤ 12 }
         ensures { Serves (2 ^ (30 + shift)) p q result }
     {
@@ -80,7 +81,7 @@ impl Slab {
         let low = bounds.low as i64;
         let high = bounds.high as i64;
         let slack = bounds.slack as i64;
-        if q < p {
+        if backward {
             return Slab {
                 start: p,
                 wide: p + slack,

@@ -1,5 +1,5 @@
 // Walks through a hierarchy of boxes.
-ghost use Rattle.std.specs.Prelude.{◌≡◌, ◌+◌, ◌-◌, ◌^◌, ◌<◌, ◌≤◌, All, length, IfNone, IfSome, IsNone, IsSome, OnSome, MatchOption, Some, slice_get};
+ghost use Rattle.std.specs.Prelude.{◌≡◌, ◌+◌, ◌-◌, ◌^◌, ◌<◌, ◌≤◌, All, length, IfNone, IfSome, IsNone, IsSome, OnSome, MatchOption, Some, slice_get, int_lt};
 ghost use Rattle.lc_num.specs.Vectors.{Within};
 ghost use Rattle.lc_geom.specs.Hits.{earlier, is_before, moved};
 ghost use Rattle.lc_geom.specs.Triangles.{IsTri};
@@ -63,17 +63,23 @@ fn blocker_among(
     None
 }
 
-/// A row whose triangle blocks the segment, but for the known one, which does not. Each test counts.
-pub(crate) fn blocker(
+/// What `blocker` finds, where it is known on which axes the segment leads to lesser coordinates. The compiler makes a
+/// loop for each value that is a constant, in which the ends of boxes are not picked anew.
+#[inline(always)]
+fn search(
     nodes: &[Node],
     rows: &[Row],
     p: Vec3,
     q: Vec3,
+    backward: (bool, bool, bool),
     known: u32,
     tests: &mut u64,
 ) -> Option<u32>
     requires p { Within 50_100_000 p }
     requires q { Within 320_000_000 q }
+    requires x { backward.0 ≡ int_lt q.x p.x }
+    requires y { backward.1 ≡ int_lt q.y p.y }
+    requires z { backward.2 ≡ int_lt q.z p.z }
     requires laid { IsHierarchy nodes.now rows.now }
     requires few { tests.old + length rows.now < 2 ^ 64 }
     ensures clear { IfNone result (AreClear p q rows.now known (length rows.now)) }
@@ -82,7 +88,7 @@ pub(crate) fn blocker(
     ensures some { OnSome result (tests.old < tests.new) }
     ensures counted { tests.new ≤ tests.old + others known (length rows.now) }
 {
-    let beam = Beam::new(p, q);
+    let beam = Beam::toward(p, q, backward);
     let last = nodes.len() - 1;
     let mut at = 0;
     while at < last {
@@ -107,6 +113,37 @@ pub(crate) fn blocker(
         }
     }
     None
+}
+
+/// A row whose triangle blocks the segment, but for the known one, which does not. Each test counts.
+pub(crate) fn blocker(
+    nodes: &[Node],
+    rows: &[Row],
+    p: Vec3,
+    q: Vec3,
+    known: u32,
+    tests: &mut u64,
+) -> Option<u32>
+    requires p { Within 50_100_000 p }
+    requires q { Within 320_000_000 q }
+    requires laid { IsHierarchy nodes.now rows.now }
+    requires few { tests.old + length rows.now < 2 ^ 64 }
+    ensures clear { IfNone result (AreClear p q rows.now known (length rows.now)) }
+    ensures blocks { IfSome result (IsBlocker p q rows.now) }
+    ensures more { tests.old ≤ tests.new }
+    ensures some { OnSome result (tests.old < tests.new) }
+    ensures counted { tests.new ≤ tests.old + others known (length rows.now) }
+{
+    match (q.x < p.x, q.y < p.y, q.z < p.z) {
+        (false, false, false) => search(nodes, rows, p, q, (false, false, false), known, tests),
+        (false, false, true) => search(nodes, rows, p, q, (false, false, true), known, tests),
+        (false, true, false) => search(nodes, rows, p, q, (false, true, false), known, tests),
+        (false, true, true) => search(nodes, rows, p, q, (false, true, true), known, tests),
+        (true, false, false) => search(nodes, rows, p, q, (true, false, false), known, tests),
+        (true, false, true) => search(nodes, rows, p, q, (true, false, true), known, tests),
+        (true, true, false) => search(nodes, rows, p, q, (true, true, false), known, tests),
+        (true, true, true) => search(nodes, rows, p, q, (true, true, true), known, tests),
+    }
 }
 
 /// The one of two hits that comes first.

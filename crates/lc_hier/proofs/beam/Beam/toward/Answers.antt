@@ -1,7 +1,7 @@
 use Rattle.std.proofs.Common.{rules, arith, ◌+◌, ◌^◌}
 use Rattle.std.proofs.lemmas.Int.{ints}
 use Rattle.lc_hier.proofs.SlabLaws.{serves_read}
-use Rattle.lc_hier.proofs.beam.Beam.new.Goals as goal
+use Rattle.lc_hier.proofs.beam.Beam.toward.Goals as goal
 
 pub invariant_of-result : goal.invariant_of-result
 invariant_of-result c = record {

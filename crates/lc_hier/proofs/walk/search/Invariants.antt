@@ -1,6 +1,6 @@
 use Rattle.std.proofs.Common.{◌-◌, length}
 use Rattle.lc_hier.proofs.Walks.{Walked}
-use Rattle.lc_hier.proofs.walk.blocker.Given as goal
+use Rattle.lc_hier.proofs.walk.search.Given as goal
 
 abbrev pub invariant-loop-at : goal.invariant-loop-at
 invariant-loop-at l = Walked l.p l.q l.nodes l.rows l.known l.at l.initial.tests l.tests

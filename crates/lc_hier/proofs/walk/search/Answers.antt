@@ -2,7 +2,7 @@ use Rattle.std.proofs.Common.{◌≡◌, ◌+◌, length, arith, subst}
 use Rattle.lc_hier.specs.Seen.{AreClear}
 use Rattle.lc_hier.proofs.Layouts.{first_at_end}
 use Rattle.lc_hier.proofs.Walks.{walk_skips, walk_enters, node_is, leaf_order, leaf_most, counted_before, others_rises, others_most}
-use Rattle.lc_hier.proofs.walk.blocker.Goals as goal
+use Rattle.lc_hier.proofs.walk.search.Goals as goal
 
 pub loop-at-smaller-then-misses : goal.loop-at-smaller-then-misses
 loop-at-smaller-then-misses c =
@@ -12,7 +12,7 @@ loop-at-smaller-then-misses c =
 pub loop-at-preserved-then-misses : goal.loop-at-preserved-then-misses
 loop-at-preserved-then-misses c =
     walk_skips c.args.p c.args.q c.args.nodes.now c.args.rows.now c.args.known c.args.tests.now c.requires.laid c.loop-at.at c.loop-at.tests c.node_at-node.result c.node_at-node.ensures (omega (arith, c.loop-at-test.true)) c.loop-at.invariant
-    (λ t holds. rw (c.new-beam.ensures.start, c.new-beam.ensures.end, c.new-beam.ensures.most) at (c.misses.ensures c.if-misses.true t holds))
+    (λ t holds. rw (c.toward-beam.ensures.start, c.toward-beam.ensures.end, c.toward-beam.ensures.most) at (c.misses.ensures c.if-misses.true t holds))
 
 pub blocker_among-found-requires-clause-order : goal.blocker_among-found-requires-clause-order
 blocker_among-found-requires-clause-order c =

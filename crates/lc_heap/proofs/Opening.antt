@@ -1,5 +1,6 @@
 -- Lists with an open place, at which an entry is thought to stand.
-use Rattle.std.proofs.Common.{◌≡◌, ℕ, ◌+◌, ◌*◌, ◌<◌, ◌≤◌, ◌≢◌, inl, inr, true, false, List, length, get_or, set, IsPermutation, ap, sym, subst, ◌∙◌, refl, arith, get_or-set_same, get_or-set_other, length-set}
+use Rattle.std.proofs.Common.{◌≡◌, ℕ, ◌+◌, ◌*◌, ◌<◌, ◌≤◌, ◌≢◌, inl, inr, Bool, true, false, List, length, get_or, set, IsPermutation, ap, sym, subst, ◌∙◌, refl, arith, get_or-set_same, get_or-set_other, length-set}
+use mir.Val.{bool_byte}
 use Rattle.std.specs.List.{swap}
 use Rattle.std.proofs.lemmas.Bool.{cases_eq}
 use Rattle.std.proofs.lemmas.List.{get_or_default, set-set}
@@ -134,3 +135,8 @@ module _ (es : List Entry) (j : ℕ) where
         (one_way (get_or es (2 * j + 1 + 1) z) (get_or es (2 * j + 1) z) before)
     | inr u ↦ let e : k ≡ 2 * j + 1 + 1 = omega arith in stands false _ _ _ _ (ap (λ i. get_or es i d) e) refl (itself (get_or es (2 * j + 1 + 1) d))
   ]
+
+  -- the place of the right one is one more
+  pub one_of_two : (z : Entry) (t : Bool) (n : ℕ) → 2 * j + 1 + 1 < length es → comes_before (get_or es (2 * j + 1 + 1) z) (get_or es (2 * j + 1) z) ≡ t → n ≡ bool_byte t → IsFirstChild es j (2 * j + 1 + n)
+  one_of_two z true n more before is = let at : 2 * j + 1 + 1 ≡ 2 * j + 1 + n = omega (arith, is) in subst (IsFirstChild es j) at (right_child z more before)
+  one_of_two z false n more before is = let at : 2 * j + 1 ≡ 2 * j + 1 + n = omega (arith, is) in subst (IsFirstChild es j) at (left_child z more before)

@@ -24,13 +24,18 @@ pub(crate) fn rise<L: Ledger>(entries: &mut [Entry], entry: Entry, steps: &mut S
         if !comes_before(entry, above) {
             break;
         }
-        entries[at] = above;
+        entries[at] = Entry {
+            key: above.key,
+            kind: above.kind,
+            node: above.node,
+        };
         at = parent;
     }
     entries[at] = entry;
 }
 
-/// The place of the first of the children of a place.
+/// The place of the first of the children of a place. Which one it is no processor foresees, so it is not asked by a
+/// branch.
 fn first_child<L: Ledger>(entries: &[Entry], at: usize, steps: &mut Steps<L>) -> usize
     requires { 2 * at + 1 < length entries.now }
     ensures left { 2 * at + 1 ≤ result }
@@ -46,11 +51,7 @@ fn first_child<L: Ledger>(entries: &[Entry], at: usize, steps: &mut Steps<L>) ->
         return left;
     }
     steps.tick();
-    if comes_before(entries[right], entries[left]) {
-        right
-    } else {
-        left
-    }
+    left + usize::from(comes_before(entries[right], entries[left]))
 }
 
 /// Puts an entry in the first place, which is open, or below it.
@@ -70,7 +71,11 @@ pub(crate) fn sink<L: Ledger>(entries: &mut [Entry], entry: Entry, steps: &mut S
         if !comes_before(below, entry) {
             break;
         }
-        entries[at] = below;
+        entries[at] = Entry {
+            key: below.key,
+            kind: below.kind,
+            node: below.node,
+        };
         at = child;
     }
     entries[at] = entry;

@@ -172,7 +172,7 @@ struct Slab {
 
 impl Slab {
     #[inline(always)]
-    fn new(p: i64, q: i64, shift: u32) -> Slab {
+    fn new(p: i64, q: i64, backward: bool, shift: u32) -> Slab {
         let units = ((q - p).unsigned_abs() as u32) >> shift;
         let (low, high, slack) = if units == 0 {
             (WHOLE as i64, WHOLE as i64, 1i64 << shift)
@@ -180,7 +180,7 @@ impl Slab {
             let quotient = (WHOLE / units) as i64;
             (if shift == 0 { quotient } else { (WHOLE / (units + 1)) as i64 }, quotient + 1, 0)
         };
-        if q < p {
+        if backward {
             Slab { start: p, wide: p + slack, low: -low, high: -high, backward: true }
         } else {
             Slab { start: p, wide: p - slack, low, high, backward: false }
@@ -208,9 +208,18 @@ struct Beam {
 impl Beam {
     #[inline(always)]
     fn new(p: Vec3, q: Vec3) -> Beam {
+        Beam::toward(p, q, (q.x < p.x, q.y < p.y, q.z < p.z))
+    }
+
+    #[inline(always)]
+    fn toward(p: Vec3, q: Vec3, backward: (bool, bool, bool)) -> Beam {
         let longest = q.x.abs_diff(p.x).max(q.y.abs_diff(p.y)).max(q.z.abs_diff(p.z));
         let shift = (longest >> 17).max(1).ilog2();
-        let slabs = [Slab::new(p.x, q.x, shift), Slab::new(p.y, q.y, shift), Slab::new(p.z, q.z, shift)];
+        let slabs = [
+            Slab::new(p.x, q.x, backward.0, shift),
+            Slab::new(p.y, q.y, backward.1, shift),
+            Slab::new(p.z, q.z, backward.2, shift),
+        ];
         Beam { slabs, shift, last: ((WHOLE as i64) << shift) - 1 }
     }
 
@@ -277,7 +286,21 @@ impl Hier {
     }
 
     fn blocker(&self, p: Vec3, q: Vec3, known: u32, tests: &mut u64) -> Option<u32> {
-        let beam = Beam::new(p, q);
+        match (q.x < p.x, q.y < p.y, q.z < p.z) {
+            (false, false, false) => self.search(p, q, (false, false, false), known, tests),
+            (false, false, true) => self.search(p, q, (false, false, true), known, tests),
+            (false, true, false) => self.search(p, q, (false, true, false), known, tests),
+            (false, true, true) => self.search(p, q, (false, true, true), known, tests),
+            (true, false, false) => self.search(p, q, (true, false, false), known, tests),
+            (true, false, true) => self.search(p, q, (true, false, true), known, tests),
+            (true, true, false) => self.search(p, q, (true, true, false), known, tests),
+            (true, true, true) => self.search(p, q, (true, true, true), known, tests),
+        }
+    }
+
+    #[inline(always)]
+    fn search(&self, p: Vec3, q: Vec3, backward: (bool, bool, bool), known: u32, tests: &mut u64) -> Option<u32> {
+        let beam = Beam::toward(p, q, backward);
         let last = self.nodes.len() - 1;
         let mut at = 0;
         while at < last {

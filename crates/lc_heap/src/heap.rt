@@ -4,7 +4,7 @@ ghost use Rattle.lc_heap.specs.Order.{IsFirstOf};
 ghost use Rattle.lc_heap.specs.Bits.{bits};
 ghost use Rattle.lc_heap.specs.Heaps.{empty_heap};
 
-use crate::entry::Entry;
+use crate::entry::{Entry, Packed};
 use crate::sift::{rise, sink};
 use lc_num::{Memory, Steps};
 use std::alloc::Global;
@@ -15,7 +15,7 @@ use std::sync::ledger::Ledger;
 /// its entries, in no order that matters, and its room: how many entries it can hold.
 #[derive(Drop)]
 pub struct Heap {
-    entries: Vec<Entry>,
+    entries: Vec<Packed>,
     room: u32,
 }
 
@@ -62,7 +62,10 @@ impl Heap {
         ensures { MatchOption result (self.now.entries ≡ []) (λ e. Contains self.now.entries e
             × IsFirstOf self.now.entries e) }
     {
-        self.entries.first().copied()
+        match self.entries.first() {
+            None => None,
+            Some(first) => Some(first.entry()),
+        }
     }
 
     /// Adds an entry, for which there has to be room. It takes at most as many comparisons as the number of entries
@@ -74,8 +77,9 @@ impl Heap {
         ensures counted { steps.old ≤ steps.new }
         ensures steps { steps.new ≤ steps.old + bits (length self.new.entries) }
     {
-        let _ = self.entries.push(e);
-        rise(&mut self.entries, e, steps);
+        let packed = Packed::of(e);
+        let _ = self.entries.push(packed);
+        rise(&mut self.entries, packed, steps);
     }
 
     /// Takes out the entry that comes before all others; none exactly where there is no entry. It takes at most twice
@@ -90,11 +94,11 @@ impl Heap {
     {
         let last = self.entries.pop()?;
         if self.entries.is_empty() {
-            return Some(last);
+            return Some(last.entry());
         }
         let first = self.entries[0];
         sink(&mut self.entries, last, steps);
-        Some(first)
+        Some(first.entry())
     }
 
     /// Takes out the entry that comes before all others and adds one, in at most twice as many comparisons as the
@@ -109,8 +113,8 @@ impl Heap {
         ensures steps { steps.new ≤ steps.old + 2 * bits (length self.old.entries) }
     {
         let first = self.entries[0];
-        sink(&mut self.entries, e, steps);
-        first
+        sink(&mut self.entries, Packed::of(e), steps);
+        first.entry()
     }
 
     /// Lets all entries go.

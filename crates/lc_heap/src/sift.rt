@@ -3,12 +3,12 @@ ghost use Rattle.std.specs.Prelude.{◌≡◌, ◌+◌, ◌-◌, ◌*◌, ◌<�
 ghost use Rattle.lc_heap.specs.Bits.{bits};
 ghost use Rattle.lc_heap.specs.Heaps.{IsFirstChild, IsHeap, IsHeapIn};
 
-use crate::entry::{Entry, comes_before};
+use crate::entry::{Packed, comes_before};
 use lc_num::Steps;
 use std::sync::ledger::Ledger;
 
 /// Puts an entry in the last place, which is open, or above it.
-pub(crate) fn rise<L: Ledger>(entries: &mut [Entry], entry: Entry, steps: &mut Steps<L>)
+pub(crate) fn rise<L: Ledger>(entries: &mut [Packed], entry: Packed, steps: &mut Steps<L>)
     requires some { 0 < length entries.old }
     requires heap { IsHeapIn entries.old (length entries.old - 1) }
     ensures moved { IsPermutation (slice_set entries.old (length entries.old - 1) entry) entries.new }
@@ -24,11 +24,7 @@ pub(crate) fn rise<L: Ledger>(entries: &mut [Entry], entry: Entry, steps: &mut S
         if !comes_before(entry, above) {
             break;
         }
-        entries[at] = Entry {
-            key: above.key,
-            kind: above.kind,
-            node: above.node,
-        };
+        entries[at] = above;
         at = parent;
     }
     entries[at] = entry;
@@ -36,7 +32,7 @@ pub(crate) fn rise<L: Ledger>(entries: &mut [Entry], entry: Entry, steps: &mut S
 
 /// The place of the first of the children of a place. Which one it is no processor foresees, so it is not asked by a
 /// branch.
-fn first_child<L: Ledger>(entries: &[Entry], at: usize, steps: &mut Steps<L>) -> usize
+fn first_child<L: Ledger>(entries: &[Packed], at: usize, steps: &mut Steps<L>) -> usize
     requires { 2 * at + 1 < length entries.now }
     ensures left { 2 * at + 1 ≤ result }
     ensures right { result ≤ 2 * at + 2 }
@@ -55,7 +51,7 @@ fn first_child<L: Ledger>(entries: &[Entry], at: usize, steps: &mut Steps<L>) ->
 }
 
 /// Puts an entry in the first place, which is open, or below it.
-pub(crate) fn sink<L: Ledger>(entries: &mut [Entry], entry: Entry, steps: &mut Steps<L>)
+pub(crate) fn sink<L: Ledger>(entries: &mut [Packed], entry: Packed, steps: &mut Steps<L>)
     requires some { 0 < length entries.old }
     requires heap { IsHeap entries.old }
     ensures moved { IsPermutation (slice_set entries.old 0 entry) entries.new }
@@ -71,11 +67,7 @@ pub(crate) fn sink<L: Ledger>(entries: &mut [Entry], entry: Entry, steps: &mut S
         if !comes_before(below, entry) {
             break;
         }
-        entries[at] = Entry {
-            key: below.key,
-            kind: below.kind,
-            node: below.node,
-        };
+        entries[at] = below;
         at = child;
     }
     entries[at] = entry;

@@ -6,4 +6,4 @@ pub returns-then-right-entries-clause-first : goal.returns-then-right-entries-cl
 returns-then-right-entries-clause-first g c = only_child c.args.entries.now c.args.at (omega arith)
 
 pub returns-clause-first : goal.returns-clause-first
-returns-clause-first g c = one_of_two c.args.entries.now c.args.at _ c.comes_before.result c.from.result (omega arith) (sym c.comes_before.ensures) c.from.ensures
+returns-clause-first g c = one_of_two c.args.entries.now c.args.at c.index-entries-right.result c.index-entries-left.result c.comes_before.result c.from.result (omega arith) c.index-entries-right.is c.index-entries-left.is (sym c.comes_before.ensures) c.from.ensures

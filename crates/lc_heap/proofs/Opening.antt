@@ -27,17 +27,17 @@ pub heaped : (es : List Entry) (d : Entry) → IsHeap es → Heaped (λ k. get_o
 unfolding IsHeapIn
 heaped es d h = record { below = λ p k a b in'. h p k d a b in' }
 
--- the entry z at c goes to the open place j, and leaves c open
-module _ (es : List Entry) (e z : Entry) (j c : ℕ) (differ : j ≢ c) (inside : j < length es) (within : c < length es) (read : z ≡ get_or es c z) where
-  seen_there : (d : Entry) → get_or (set es j e) c d ≡ get_or es c z
-  seen_there d = let v : c ≢ j = λ p. differ (sym p) in get_or-set_other es j c e d v ∙ get_or_default es c d z within
+-- the entry at c, which is z, goes to the open place j, and leaves c open
+module _ (es : List Entry) (e z : Entry) (j c : ℕ) (is : z ≡ get_or es c z) (differ : j ≢ c) (inside : j < length es) (within : c < length es) where
+  seen_there : (d : Entry) → get_or (set es j e) c d ≡ z
+  seen_there d = let v : c ≢ j = λ p. differ (sym p) in get_or-set_other es j c e d v ∙ get_or_default es c d z within ∙ sym is
 
-  is_swap : set (set es j (get_or es c z)) c e ≡ swap (set es j e) j c
+  is_swap : set (set es j z) c e ≡ swap (set es j e) j c
   is_swap =
       let long = length-set es j e in
-      let there : get_or (set es j e) c z ≡ get_or es c z = seen_there z in
+      let there : get_or (set es j e) c z ≡ z = seen_there z in
       let here : get_or (set es j e) j z ≡ e = get_or-set_same es j e z inside in
-      let as_set : set (set es j e) j (get_or es c z) ≡ set es j (get_or es c z) = set-set es j e (get_or es c z) in
+      let as_set : set (set es j e) j z ≡ set es j z = set-set es j e z in
       sym (ap (λ (l : List Entry). set l c e) as_set)
       ∙ sym (ap (λ (x : Entry). set (set (set es j e) j x) c e) there)
       ∙ sym (ap (λ (x : Entry). set (set (set es j e) j (get_or (set es j e) c z)) c x) here)
@@ -46,36 +46,36 @@ module _ (es : List Entry) (e z : Entry) (j c : ℕ) (differ : j ≢ c) (inside 
   pub moves : (xs : List Entry) → IsPermutation xs (set es j e) → IsPermutation xs (set (set es j z) c e)
   moves xs h =
       let long = length-set es j e in
-      subst (λ (y : Entry). IsPermutation xs (set (set es j y) c e)) (sym read) (IsPermutation-trans xs (set es j e) (set (set es j (get_or es c z)) c e) h (IsPermutation-swap (set es j e) (set (set es j (get_or es c z)) c e) j c (omega arith) (omega arith) is_swap))
+      IsPermutation-trans xs (set es j e) (set (set es j z) c e) h (IsPermutation-swap (set es j e) (set (set es j z) c e) j c (omega arith) (omega arith) is_swap)
 
-  swapped : (d : Entry) → Swapped (λ k. get_or (set es j e) k d) (λ k. get_or (set (set es j (get_or es c z)) c e) k d) j c
+  swapped : (d : Entry) → Swapped (λ k. get_or (set es j e) k d) (λ k. get_or (set (set es j z) c e) k d) j c
   swapped d =
       let long = length-set es j e in
-      swapped_from_swap (set es j e) (set (set es j (get_or es c z)) c e) j c d (omega arith) (omega arith) is_swap
+      swapped_from_swap (set es j e) (set (set es j z) c e) j c d (omega arith) (omega arith) is_swap
 
-  long : length (set es j e) ≡ length (set (set es j (get_or es c z)) c e)
-  long = length-set es j e ∙ sym (length-set (set es j (get_or es c z)) c e ∙ length-set es j (get_or es c z))
+  long : length (set es j e) ≡ length (set (set es j z) c e)
+  long = length-set es j e ∙ sym (length-set (set es j z) c e ∙ length-set es j z)
 
   pub rises_more : 2 * c + 1 ≤ j → j ≤ 2 * c + 2 → comes_before e z ≡ true → Rises (set es j e) j → Rises (set (set es j z) c e) c
-  rises_more lo hi up h = subst (λ (y : Entry). Rises (set (set es j y) c e) c) (sym read) (λ d.
-      let was : Rising (λ k. get_or (set es j e) k d) j (length (set (set es j (get_or es c z)) c e)) = subst (Rising (λ k. get_or (set es j e) k d) j) long (h d) in
+  rises_more lo hi up h = λ d.
+      let was : Rising (λ k. get_or (set es j e) k d) j (length (set (set es j z) c e)) = subst (Rising (λ k. get_or (set es j e) k d) j) long (h d) in
       let full = sym long ∙ length-set es j e in
-      rises (λ k. get_or (set es j e) k d) (λ k. get_or (set (set es j (get_or es c z)) c e) k d) (length (set (set es j (get_or es c z)) c e)) j c lo hi (omega arith) (swapped d)
-      (stands true _ _ _ _ (get_or-set_same es j e d inside) (seen_there d ∙ sym read) up) was)
+      rises (λ k. get_or (set es j e) k d) (λ k. get_or (set (set es j z) c e) k d) (length (set (set es j z) c e)) j c lo hi (omega arith) (swapped d)
+      (stands true _ _ _ _ (get_or-set_same es j e d inside) (seen_there d) up) was
 
   pub sinks_more : 2 * j + 1 ≤ c → c ≤ 2 * j + 2 → comes_before z e ≡ true → IsFirstChild es j c → Sinks (set es j e) j → Sinks (set (set es j z) c e) c
   unfolding IsFirstChild
-  sinks_more lo hi down first h = subst (λ (y : Entry). Sinks (set (set es j y) c e) c) (sym read) (λ d.
-      let was : Sinking (λ k. get_or (set es j e) k d) j (length (set (set es j (get_or es c z)) c e)) = subst (Sinking (λ k. get_or (set es j e) k d) j) long (h d) in
-      let full : length (set (set es j (get_or es c z)) c e) ≡ length es = sym long ∙ length-set es j e in
-      sinks (λ k. get_or (set es j e) k d) (λ k. get_or (set (set es j (get_or es c z)) c e) k d) (length (set (set es j (get_or es c z)) c e)) j c lo hi (omega arith) (swapped d)
-      (stands true _ _ _ _ (seen_there d ∙ sym read) (get_or-set_same es j e d inside) down)
-      (λ k a b in'. stands false _ _ _ _ (get_or-set_other es j k e d (omega arith)) (get_or-set_other es j c e d (omega arith)) (first k d a b (omega arith))) was)
+  sinks_more lo hi down first h = λ d.
+      let was : Sinking (λ k. get_or (set es j e) k d) j (length (set (set es j z) c e)) = subst (Sinking (λ k. get_or (set es j e) k d) j) long (h d) in
+      let full : length (set (set es j z) c e) ≡ length es = sym long ∙ length-set es j e in
+      sinks (λ k. get_or (set es j e) k d) (λ k. get_or (set (set es j z) c e) k d) (length (set (set es j z) c e)) j c lo hi (omega arith) (swapped d)
+      (stands true _ _ _ _ (seen_there d) (get_or-set_same es j e d inside) down)
+      (λ k a b in'. stands false _ _ _ _ (get_or-set_other es j k e d (omega arith)) (get_or-set_other es j c e d (omega arith)) (first k d a b (omega arith))) was
 
   pub rises_rest : 2 * c + 1 ≤ j → j ≤ 2 * c + 2 → comes_before e z ≡ false → Rises (set es j e) j → IsHeap (set es j e)
   rises_rest lo hi stays h = heap_is (set es j e) (λ d.
       rested (λ k. get_or (set es j e) k d) (length (set es j e)) j
-      (λ p a b. let same : p ≡ c = omega arith in stands false _ _ _ _ (get_or-set_same es j e d inside) (ap (λ i. get_or (set es j e) i d) same ∙ seen_there d ∙ sym read) stays) (h d))
+      (λ p a b. let same : p ≡ c = omega arith in stands false _ _ _ _ (get_or-set_same es j e d inside) (ap (λ i. get_or (set es j e) i d) same ∙ seen_there d) stays) (h d))
 
   pub sinks_rest : 2 * j + 1 ≤ c → c ≤ 2 * j + 2 → comes_before z e ≡ false → IsFirstChild es j c → Sinks (set es j e) j → IsHeap (set es j e)
   unfolding IsFirstChild
@@ -83,7 +83,7 @@ module _ (es : List Entry) (e z : Entry) (j c : ℕ) (differ : j ≢ c) (inside 
       let full = length-set es j e in
       settled (λ k. get_or (set es j e) k d) (length (set es j e)) j
       (λ k a b in'. stands false _ _ _ _ (get_or-set_other es j k e d (omega arith)) (get_or-set_same es j e d inside)
-      (not_before e (get_or es c d) (get_or es k d) (first k d a b (omega arith)) (stands false _ _ _ _ (get_or_default es c d z within ∙ sym read) refl stays))) (h d))
+      (not_before e (get_or es c d) (get_or es k d) (first k d a b (omega arith)) (stands false _ _ _ _ (get_or_default es c d z within ∙ sym is) refl stays))) (h d))
 
 module _ (es : List Entry) (e : Entry) where
   pub rises_first : (n : ℕ) → n + 1 ≡ length es → IsHeapIn es n → Rises (set es n e) n
@@ -118,29 +118,27 @@ module _ (es : List Entry) (j : ℕ) where
   unfolding IsFirstChild
   only_child last = λ k d a b in'. let e : k ≡ 2 * j + 1 = omega arith in stands false _ _ _ _ (ap (λ i. get_or es i d) e) refl (itself (get_or es (2 * j + 1) d))
 
-  pub left_child : (z : Entry) → 2 * j + 1 + 1 < length es → comes_before (get_or es (2 * j + 1 + 1) z) (get_or es (2 * j + 1) z) ≡ false → IsFirstChild es j (2 * j + 1)
-  unfolding IsFirstChild
-  left_child z long before = λ k d a b in'. elim (cases_eq k (2 * j + 1)) as (λ _. comes_before (get_or es k d) (get_or es (2 * j + 1) d) ≡ false) [
-    | inl e ↦ stands false _ _ _ _ (ap (λ i. get_or es i d) e) refl (itself (get_or es (2 * j + 1) d))
-    | inr u ↦
-        let e : k ≡ 2 * j + 1 + 1 = omega arith in
-        stands false _ _ _ _ (ap (λ i. get_or es i d) e ∙ get_or_default es (2 * j + 1 + 1) d z long) (get_or_default es (2 * j + 1) d z (omega arith)) before
-  ]
+  -- x is the right one and y the left one
+  module _ (x y : Entry) (long : 2 * j + 1 + 1 < length es) (right : x ≡ get_or es (2 * j + 1 + 1) x) (left : y ≡ get_or es (2 * j + 1) y) where
+    left_child : comes_before x y ≡ false → IsFirstChild es j (2 * j + 1)
+    unfolding IsFirstChild
+    left_child before = λ k d a b in'. elim (cases_eq k (2 * j + 1)) as (λ _. comes_before (get_or es k d) (get_or es (2 * j + 1) d) ≡ false) [
+      | inl e ↦ stands false _ _ _ _ (ap (λ i. get_or es i d) e) refl (itself (get_or es (2 * j + 1) d))
+      | inr u ↦
+          let e : k ≡ 2 * j + 1 + 1 = omega arith in
+          stands false _ _ _ _ (ap (λ i. get_or es i d) e ∙ get_or_default es (2 * j + 1 + 1) d x long ∙ sym right) (get_or_default es (2 * j + 1) d y (omega arith) ∙ sym left) before
+    ]
 
-  pub right_child : (z : Entry) → 2 * j + 1 + 1 < length es → comes_before (get_or es (2 * j + 1 + 1) z) (get_or es (2 * j + 1) z) ≡ true → IsFirstChild es j (2 * j + 1 + 1)
-  unfolding IsFirstChild
-  right_child z long before = λ k d a b in'. elim (cases_eq k (2 * j + 1)) as (λ _. comes_before (get_or es k d) (get_or es (2 * j + 1 + 1) d) ≡ false) [
-    | inl e ↦
-        stands false _ _ _ _ (ap (λ i. get_or es i d) e ∙ get_or_default es (2 * j + 1) d z (omega arith)) (get_or_default es (2 * j + 1 + 1) d z long)
-        (one_way (get_or es (2 * j + 1 + 1) z) (get_or es (2 * j + 1) z) before)
-    | inr u ↦ let e : k ≡ 2 * j + 1 + 1 = omega arith in stands false _ _ _ _ (ap (λ i. get_or es i d) e) refl (itself (get_or es (2 * j + 1 + 1) d))
-  ]
+    right_child : comes_before x y ≡ true → IsFirstChild es j (2 * j + 1 + 1)
+    unfolding IsFirstChild
+    right_child before = λ k d a b in'. elim (cases_eq k (2 * j + 1)) as (λ _. comes_before (get_or es k d) (get_or es (2 * j + 1 + 1) d) ≡ false) [
+      | inl e ↦
+          stands false _ _ _ _ (ap (λ i. get_or es i d) e ∙ get_or_default es (2 * j + 1) d y (omega arith) ∙ sym left) (get_or_default es (2 * j + 1 + 1) d x long ∙ sym right)
+          (one_way x y before)
+      | inr u ↦ let e : k ≡ 2 * j + 1 + 1 = omega arith in stands false _ _ _ _ (ap (λ i. get_or es i d) e) refl (itself (get_or es (2 * j + 1 + 1) d))
+    ]
 
-  -- the place of the right one is one more
-  one_of : (z : Entry) (t : Bool) (n : ℕ) → 2 * j + 1 + 1 < length es → comes_before (get_or es (2 * j + 1 + 1) z) (get_or es (2 * j + 1) z) ≡ t → n ≡ bool_byte t → IsFirstChild es j (2 * j + 1 + n)
-  one_of z true n more before is = let at : 2 * j + 1 + 1 ≡ 2 * j + 1 + n = omega (arith, is) in subst (IsFirstChild es j) at (right_child z more before)
-  one_of z false n more before is = let at : 2 * j + 1 ≡ 2 * j + 1 + n = omega (arith, is) in subst (IsFirstChild es j) at (left_child z more before)
-
-  pub one_of_two : (r l : Entry) (t : Bool) (n : ℕ) → 2 * j + 1 + 1 < length es → r ≡ get_or es (2 * j + 1 + 1) r → l ≡ get_or es (2 * j + 1) l → comes_before r l ≡ t → n ≡ bool_byte t → IsFirstChild es j (2 * j + 1 + n)
-  one_of_two r l t n more right left before is =
-      one_of r t n more (stands t _ _ _ _ (sym right) (get_or_default es (2 * j + 1) r l (omega arith) ∙ sym left) before) is
+    -- the place of the right one is one more
+    pub one_of_two : (t : Bool) (n : ℕ) → comes_before x y ≡ t → n ≡ bool_byte t → IsFirstChild es j (2 * j + 1 + n)
+    one_of_two true n before is = let at : 2 * j + 1 + 1 ≡ 2 * j + 1 + n = omega (arith, is) in subst (IsFirstChild es j) at (right_child before)
+    one_of_two false n before is = let at : 2 * j + 1 ≡ 2 * j + 1 + n = omega (arith, is) in subst (IsFirstChild es j) at (left_child before)

@@ -4,7 +4,8 @@ ghost use Rattle.lc_heap.specs.Order.{IsFirstOf};
 ghost use Rattle.lc_heap.specs.Bits.{bits};
 ghost use Rattle.lc_heap.specs.Heaps.{empty_heap};
 
-use crate::entry::{Entry, Packed};
+use crate::entry::Entry;
+use crate::packed::Packed;
 use crate::sift::{rise, sink};
 use lc_num::{Memory, Steps};
 use std::alloc::Global;
@@ -62,10 +63,8 @@ impl Heap {
         ensures { MatchOption result (self.now.entries ≡ []) (λ e. Contains self.now.entries e
             × IsFirstOf self.now.entries e) }
     {
-        match self.entries.first() {
-            None => None,
-            Some(first) => Some(first.entry()),
-        }
+        let first = self.entries.first().copied()?;
+        Some(first.entry())
     }
 
     /// Adds an entry, for which there has to be room. It takes at most as many comparisons as the number of entries

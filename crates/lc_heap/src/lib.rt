@@ -4,6 +4,7 @@
 mod entry;
 mod heap;
 mod laws;
+mod packed;
 mod sift;
 
 pub use entry::Entry;

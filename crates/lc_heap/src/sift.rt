@@ -3,7 +3,7 @@ ghost use Rattle.std.specs.Prelude.{◌≡◌, ◌+◌, ◌-◌, ◌*◌, ◌<�
 ghost use Rattle.lc_heap.specs.Bits.{bits};
 ghost use Rattle.lc_heap.specs.Heaps.{IsFirstChild, IsHeap, IsHeapIn};
 
-use crate::entry::{Packed, comes_before};
+use crate::packed::{Packed, comes_before};
 use lc_num::Steps;
 use std::sync::ledger::Ledger;
 

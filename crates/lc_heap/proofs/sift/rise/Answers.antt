@@ -23,11 +23,12 @@ loop-at-preserved g c =
     let within = l.invariant.within in
     let some = c.loop-at-test.true in
     let q = (l.at - 1) / 2 in
+    let above = c.index-entries-parent.is in
     let up = sym c.comes_before.ensures ∙ c.if-not-comes_before.false in
     record {
       within = omega (arith, length-set {A = Entry});
-      moved = moves l.entries c.args.entry c.index-entries-parent.result l.at q (omega arith) within (omega arith) c.index-entries-parent.is _ l.invariant.moved;
-      rising = rises_more l.entries c.args.entry c.index-entries-parent.result l.at q (omega arith) within (omega arith) c.index-entries-parent.is (omega arith) (omega arith) up l.invariant.rising;
+      moved = moves l.entries c.args.entry _ l.at q above (omega arith) within (omega arith) _ l.invariant.moved;
+      rising = rises_more l.entries c.args.entry _ l.at q above (omega arith) within (omega arith) (omega arith) (omega arith) up l.invariant.rising;
       counted = omega arith;
       steps = omega (arith, bits_half q l.at (omega arith) some);
     }
@@ -40,7 +41,7 @@ returns-clause-heap g c =
       | else-loop-at-test w ↦ rises_top l.entries c.args.entry l.at (omega arith) l.invariant.rising
       | then-loop-at-test+then-not-comes_before w ↦
           let some = w.loop-at-test.true in
-          rises_rest l.entries c.args.entry w.index-entries-parent.result l.at ((l.at - 1) / 2) (omega arith) within (omega arith) w.index-entries-parent.is (omega arith) (omega arith) (sym w.comes_before.ensures ∙ w.if-not-comes_before.true) l.invariant.rising
+          rises_rest l.entries c.args.entry _ l.at ((l.at - 1) / 2) w.index-entries-parent.is (omega arith) within (omega arith) (omega arith) (omega arith) (sym w.comes_before.ensures ∙ w.if-not-comes_before.true) l.invariant.rising
     ]
 
 pub returns-clause-steps : goal.returns-clause-steps

@@ -21,13 +21,14 @@ loop-at-preserved g c =
     let within = l.invariant.within in
     let child = c.first_child-child.ensures in
     let to = c.first_child-child.result in
+    let below = c.index-entries-child.is in
     let left = child.left in
     let down = sym c.comes_before.ensures ∙ c.if-not-comes_before.false in
     let deeper = bits_half (l.at + 1) (to + 1) (omega arith) (omega arith) in
     record {
       within = omega (arith, length-set {A = Entry}, child.within);
-      moved = moves l.entries c.args.entry c.index-entries-child.result l.at to (omega arith) within child.within c.index-entries-child.is _ l.invariant.moved;
-      sinking = sinks_more l.entries c.args.entry c.index-entries-child.result l.at to (omega arith) within child.within c.index-entries-child.is left child.right down child.first l.invariant.sinking;
+      moved = moves l.entries c.args.entry _ l.at to below (omega arith) within child.within _ l.invariant.moved;
+      sinking = sinks_more l.entries c.args.entry _ l.at to below (omega arith) within child.within left child.right down child.first l.invariant.sinking;
       counted = omega arith;
       steps = omega (arith, deeper);
     }
@@ -40,7 +41,7 @@ returns-clause-heap g c =
       | then-loop-at-test+then-not-comes_before w ↦
           let child = w.first_child-child.ensures in
           let left = child.left in
-          sinks_rest l.entries c.args.entry w.index-entries-child.result l.at w.first_child-child.result (omega arith) l.invariant.within child.within w.index-entries-child.is left child.right (sym w.comes_before.ensures ∙ w.if-not-comes_before.true) child.first l.invariant.sinking
+          sinks_rest l.entries c.args.entry _ l.at w.first_child-child.result w.index-entries-child.is (omega arith) l.invariant.within child.within left child.right (sym w.comes_before.ensures ∙ w.if-not-comes_before.true) child.first l.invariant.sinking
     ]
 
 pub returns-clause-steps : goal.returns-clause-steps

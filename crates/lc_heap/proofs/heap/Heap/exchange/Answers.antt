@@ -1,4 +1,4 @@
-use Rattle.std.proofs.Common.{◌≡◌, ◌∷◌, List, length, get_or, set, IsPermutation, ap, sym, subst, arith}
+use Rattle.std.proofs.Common.{◌∷◌, List, length, set, IsPermutation, ap, subst, arith}
 use Rattle.lc_heap.specs.declared.entry.Entry.{Entry}
 use Rattle.lc_heap.specs.Order.{IsFirstOf}
 use Rattle.lc_heap.specs.Heaps.{HeapParts}
@@ -9,20 +9,16 @@ pub returns-clause-entries : goal.returns-clause-entries
 returns-clause-entries g c =
     let es = c.self.inside.entries.items in
     let e = c.args.e in
-    let z = c.entry.result in
+    let z = c.index-first.result.now in
     let xs = c.sink.new.entries in
     let was = ap (λ (h : HeapParts). h.entries) c.self.view_is in
-    let first : z ≡ get_or es 0 z = subst (λ (x : Entry). x ≡ get_or es 0 x) (sym c.entry.ensures) c.index.ensures in
-    let kept = subst (λ (l : List Entry). IsPermutation (set l 0 c.of.result) xs) c.deref_mut.ensures.value c.sink.ensures.moved in
-    let moved = subst (λ (x : Entry). IsPermutation (set es 0 x) xs) c.of.ensures kept in
+    let moved = rw c.of.ensures at (subst (λ (l : List Entry). IsPermutation (set l 0 c.of.result) xs) c.deref_mut.ensures.value c.sink.ensures.moved) in
     let some = c.requires in
-    rw (put_back c.self.inside.entries.len xs es (omega arith))
-    (subst (λ (l : List Entry). IsPermutation (e ∷ l) (z ∷ xs)) was (exchanged es e z xs (omega (arith, ap length was)) first moved))
+    rw (c.entry.ensures, put_back c.self.inside.entries.len xs es (omega arith))
+    (subst (λ (l : List Entry). IsPermutation (e ∷ l) (z ∷ xs)) was (exchanged es e z xs (omega (arith, ap length was)) c.index-first.ensures moved))
 
 pub returns-clause-first : goal.returns-clause-first
 returns-clause-first g c =
-    let es = c.self.inside.entries.items in
-    let z = c.entry.result in
     let was = ap (λ (h : HeapParts). h.entries) c.self.view_is in
-    let first : z ≡ get_or es 0 z = subst (λ (x : Entry). x ≡ get_or es 0 x) (sym c.entry.ensures) c.index.ensures in
-    subst (λ (l : List Entry). IsFirstOf l z) was (first_is es z first c.self.invariant.0)
+    rw c.entry.ensures
+    (subst (λ (l : List Entry). IsFirstOf l c.index-first.result.now) was (first_is c.self.inside.entries.items c.index-first.result.now c.index-first.ensures c.self.invariant.0))

@@ -1,4 +1,4 @@
-use Rattle.std.proofs.Common.{rules, ◌≡◌, ◌-◌, ◌∷◌, [], ◌++◌, List, length, set, IsPermutation, ap, subst, ◌∙◌, arith}
+use Rattle.std.proofs.Common.{rules, ◌≡◌, ◌-◌, ◌∷◌, [], ◌++◌, List, length, IsPermutation, ap, subst, ◌∙◌, arith}
 use Rattle.lc_heap.specs.declared.entry.Entry.{Entry}
 use Rattle.lc_heap.specs.Heaps.{HeapParts}
 use Rattle.lc_heap.proofs.Digits.{bits_rise}
@@ -14,9 +14,8 @@ returns-clause-entries g c =
     let e = c.args.e in
     let xs = c.rise.new.entries in
     let was = ap (λ (h : HeapParts). h.entries) c.self.view_is in
-    let ys = c.deref_mut.result.now in
     let pushed : c.push.new.self.items ≡ es ++ e ∷ [] = search rules in
-    let moved = subst (λ (x : Entry). IsPermutation (set ys (length ys - 1) x) xs) c.of-packed.ensures c.rise.ensures.moved in
+    let moved = rw c.of-packed.ensures at c.rise.ensures.moved in
     rw (put_back c.push.new.self.len xs c.push.new.self.items (omega arith))
     (subst (λ (l : List Entry). IsPermutation (e ∷ l) xs) was (added es e c.deref_mut.result.now xs (c.deref_mut.ensures.value ∙ pushed) moved))
 

@@ -1,4 +1,4 @@
-use Rattle.std.proofs.Common.{◌≡◌, ◌<◌, ◌∷◌, [], List, length, get_or, set, length-append, IsPermutation, ap, sym, subst, ◌∙◌, arith}
+use Rattle.std.proofs.Common.{◌≡◌, ◌<◌, ◌∷◌, [], List, length, set, length-append, IsPermutation, ap, sym, subst, ◌∙◌, arith}
 use Rattle.std.proofs.lemmas.Bool.Decides.{nat_tests}
 use Rattle.lc_heap.specs.declared.entry.Entry.{Entry}
 use Rattle.lc_heap.specs.Order.{IsFirstOf}
@@ -31,16 +31,15 @@ returns-clause-entries g c =
     let es = c.self.inside.entries.items in
     let rest = c.pop.new.self.items in
     let last = c.in_ok-last.last in
-    let z = c.entry-2.result in
-    let first : z ≡ get_or rest 0 z = subst (λ (x : Entry). x ≡ get_or rest 0 x) (sym c.entry-2.ensures) c.index.ensures in
+    let z = c.index-first.result.now in
     let xs = c.sink.new.entries in
     let is = c.in_ok-last.ensures.items in
     let was = ap (λ (h : HeapParts). h.entries) c.self.view_is in
     let some : 0 < length rest = grind (arith, nat_tests) in
     let moved = subst (λ (l : List Entry). IsPermutation (set l 0 last) xs) c.deref_mut.ensures.value c.sink.ensures.moved in
-    rw (put_back c.pop.new.self.len xs rest (omega arith))
+    rw (c.entry-2.ensures, put_back c.pop.new.self.len xs rest (omega arith))
     (subst (λ (l : List Entry). IsPermutation l (z ∷ xs) × IsFirstOf l z) was
-    (taken es rest last z xs is some first moved, first_is es z (first_longer es rest last z is some first) c.self.invariant.0))
+    (taken es rest last z xs is some c.index-first.ensures moved, first_is es z (first_longer es rest last z is some c.index-first.ensures) c.self.invariant.0))
 
 pub returns-clause-steps : goal.returns-clause-steps
 returns-clause-steps g c =

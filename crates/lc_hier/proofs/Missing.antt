@@ -1,5 +1,5 @@
 -- A beam whose window at a box is shut passes all triangles in the box.
-use Rattle.std.proofs.Common.{◌≡◌, ℕ, ◌+◌, ◌^◌, ◌<◌, ◌≤◌, true, arith, ⊎_elim, ℤ, pos, ◌*ℤ◌, ◌≤ℤ◌, IsTrue}
+use Rattle.std.proofs.Common.{◌≡◌, ℕ, ◌+◌, ◌^◌, ◌<◌, ◌≤◌, true, ◌||◌, arith, ⊎_elim, ℤ, pos, ◌*ℤ◌, ◌≤ℤ◌, IsTrue}
 use Rattle.std.specs.Prelude.{int_lt}
 use Rattle.std.specs.Int.{int_min, int_max}
 use Rattle.std.specs.Int.RustNames.{unsigned_abs}
@@ -19,11 +19,19 @@ use Rattle.lc_hier.specs.Passed.{IsPassed}
 use Rattle.lc_hier.specs.Slabs.{Serves}
 use Rattle.lc_hier.proofs.Window.{entry_of, exit_of, IsBy, IsPast, no_earlier, no_later, greater_by, lesser_past, past, in_order, last_past}
 
-abbrev pub near_of : Beam → Bounds → ℤ
-near_of beam box = int_max (int_max (int_max (entry_of beam.x box.low.x box.high.x) (entry_of beam.y box.low.y box.high.y)) (entry_of beam.z box.low.z box.high.z)) (pos 0)
+-- the last entry and the first exit of the three axes
+abbrev pub entered_of : Beam → Bounds → ℤ
+entered_of beam box = int_max (int_max (entry_of beam.x box.low.x box.high.x) (entry_of beam.y box.low.y box.high.y)) (entry_of beam.z box.low.z box.high.z)
 
-abbrev pub far_of : Beam → Bounds → ℤ
-far_of beam box = int_min (int_min (int_min (exit_of beam.x box.low.x box.high.x) (exit_of beam.y box.low.y box.high.y)) (exit_of beam.z box.low.z box.high.z)) beam.last
+abbrev pub left_of : Beam → Bounds → ℤ
+left_of beam box = int_min (int_min (exit_of beam.x box.low.x box.high.x) (exit_of beam.y box.low.y box.high.y)) (exit_of beam.z box.low.z box.high.z)
+
+-- the same, within the part of the segment that matters
+abbrev near_of : Beam → Bounds → ℤ
+near_of beam box = int_max (entered_of beam box) (pos 0)
+
+abbrev far_of : Beam → Bounds → ℤ
+far_of beam box = int_min (left_of beam box) beam.last
 
 between : (box : Bounds) (v : Vec3) → IsInBounds box v → IsBetween (place_of box.low) (place_of box.high) v
 between box v h = record { low_x = h.low_x; high_x = h.high_x; low_y = h.low_y; high_y = h.high_y; low_z = h.low_z; high_z = h.high_z }
@@ -70,12 +78,15 @@ stays_open beam box t holds crossed shallow =
     (leaves_past beam.z whole s r beam.start.z beam.end.z box.low.z box.high.z beam.z_serves at.z some))
     (last_past beam.most beam.shift s r beam.last beam.last_is some shallow))
 
-pub passes_when_shut : (beam : Beam) (box : Bounds) (near far : ℤ) → near ≡ near_of beam box → far ≡ far_of beam box → IsTrue (int_lt far near) → (t : Tri) → Holds box t → IsPassed beam.start beam.end beam.most t
-passes_when_shut beam box near far e f shut t holds crossed =
+shut_off : (near far last : ℤ) → IsTrue ((int_lt far near || int_lt far (pos 0)) || int_lt last near) → int_max near (pos 0) ≤ℤ int_min far last → ⊥
+shut_off near far last shut order = grind (arith, ints)
+
+pub passes_when_shut : (beam : Beam) (box : Bounds) (near far last : ℤ) → near ≡ entered_of beam box → far ≡ left_of beam box → last ≡ beam.last → IsTrue ((int_lt far near || int_lt far (pos 0)) || int_lt last near) → (t : Tri) → Holds box t → IsPassed beam.start beam.end beam.most t
+passes_when_shut beam box near far last e f g shut t holds crossed =
     ⊎_elim
     (λ (deep : beam.most < depth_between (unsigned_abs (side t beam.start)) (unsigned_abs (side t beam.end))). deep)
     (λ (shallow : depth_between (unsigned_abs (side t beam.start)) (unsigned_abs (side t beam.end)) ≤ beam.most).
     let order : near_of beam box ≤ℤ far_of beam box = stays_open beam box t holds crossed shallow in
-    let turned : near ≤ℤ far = rw (e, f) order in
-    absurd (omega (arith, ints)))
+    let turned : int_max near (pos 0) ≤ℤ int_min far last = rw (e, f, g) order in
+    absurd (shut_off near far last shut turned))
     (cases_lt beam.most (depth_between (unsigned_abs (side t beam.start)) (unsigned_abs (side t beam.end))))

@@ -1,5 +1,5 @@
 -- What the code of slabs computes in 64 bits.
-use Rattle.std.proofs.Common.{◌≡◌, ◌+◌, ◌^◌, ◌≤◌, Bool, true, false, arith, ap, ap₂, ◌∙◌, ℤ, ◌-ℤ◌, ◌*ℤ◌, [], ◌∷◌, FitsSigned}
+use Rattle.std.proofs.Common.{◌≡◌, ◌+◌, ◌^◌, ◌≤◌, Bool, true, false, arith, ap₂, ◌∙◌, ℤ, ◌-ℤ◌, ◌*ℤ◌, [], ◌∷◌, FitsSigned}
 use Rattle.std.specs.Prelude.{if◌then◌else◌}
 use Rattle.std.specs.Int.{w32, w64, int_min, int_max}
 use Rattle.std.specs.Int.RustNames.{unsigned_abs}
@@ -30,19 +30,14 @@ module _ (slab : Slab) (low high r : ℤ) (fl : FitsSigned w32 low) (fh : FitsSi
   pub exit_read : r ≡ exit_of slab (read w32 low) (read w32 high) → r ≡ exit_of slab low high
   exit_read e = e ∙ ap₂ (λ u v. exit_of slab u v) (to_z-of_z w32 low fl) (to_z-of_z w32 high fh)
 
--- the greatest, or the least, of four numbers, two after two
-module _ (a b c d ab abc abcd x y z : ℤ) (ax : a ≡ x) (by : b ≡ y) (cz : c ≡ z) (fa : FitsSigned w64 a) (fb : FitsSigned w64 b) (fc : FitsSigned w64 c) (fab : FitsSigned w64 ab) (fabc : FitsSigned w64 abc) (fabcd : FitsSigned w64 abcd) where
-  pub greatest_read : ab ≡ int_max (read w64 a) (read w64 b) → abc ≡ int_max (read w64 ab) (read w64 c) → abcd ≡ int_max (read w64 abc) d → read w64 abcd ≡ int_max (int_max (int_max x y) z) d
-  greatest_read e f g =
-      to_z-of_z w64 abcd fabcd ∙ g
-      ∙ ap (λ u. int_max u d)
-      (to_z-of_z w64 abc fabc ∙ f
-      ∙ ap₂ (λ u v. int_max u v) (to_z-of_z w64 ab fab ∙ e ∙ ap₂ (λ u v. int_max u v) (to_z-of_z w64 a fa ∙ ax) (to_z-of_z w64 b fb ∙ by)) (to_z-of_z w64 c fc ∙ cz))
+-- the greatest, or the least, of three numbers, two after two
+module _ (a b c ab abc x y z : ℤ) (ax : a ≡ x) (by : b ≡ y) (cz : c ≡ z) (fa : FitsSigned w64 a) (fb : FitsSigned w64 b) (fc : FitsSigned w64 c) (fab : FitsSigned w64 ab) (fabc : FitsSigned w64 abc) where
+  pub greatest_read : ab ≡ int_max (read w64 a) (read w64 b) → abc ≡ int_max (read w64 ab) (read w64 c) → read w64 abc ≡ int_max (int_max x y) z
+  greatest_read e f =
+      to_z-of_z w64 abc fabc ∙ f
+      ∙ ap₂ (λ u v. int_max u v) (to_z-of_z w64 ab fab ∙ e ∙ ap₂ (λ u v. int_max u v) (to_z-of_z w64 a fa ∙ ax) (to_z-of_z w64 b fb ∙ by)) (to_z-of_z w64 c fc ∙ cz)
 
-  pub least_read : FitsSigned w64 d → ab ≡ int_min (read w64 a) (read w64 b) → abc ≡ int_min (read w64 ab) (read w64 c) → abcd ≡ int_min (read w64 abc) (read w64 d) → read w64 abcd ≡ int_min (int_min (int_min x y) z) d
-  least_read fd e f g =
-      to_z-of_z w64 abcd fabcd ∙ g
-      ∙ ap₂ (λ u v. int_min u v)
-      (to_z-of_z w64 abc fabc ∙ f
-      ∙ ap₂ (λ u v. int_min u v) (to_z-of_z w64 ab fab ∙ e ∙ ap₂ (λ u v. int_min u v) (to_z-of_z w64 a fa ∙ ax) (to_z-of_z w64 b fb ∙ by)) (to_z-of_z w64 c fc ∙ cz))
-      (to_z-of_z w64 d fd)
+  pub least_read : ab ≡ int_min (read w64 a) (read w64 b) → abc ≡ int_min (read w64 ab) (read w64 c) → read w64 abc ≡ int_min (int_min x y) z
+  least_read e f =
+      to_z-of_z w64 abc fabc ∙ f
+      ∙ ap₂ (λ u v. int_min u v) (to_z-of_z w64 ab fab ∙ e ∙ ap₂ (λ u v. int_min u v) (to_z-of_z w64 a fa ∙ ax) (to_z-of_z w64 b fb ∙ by)) (to_z-of_z w64 c fc ∙ cz)

@@ -97,7 +97,7 @@ impl Beam {
     }
 
     /// Whether nothing in the box matters: the segment has left it on one axis before it comes to it on another, or it
-    /// ends before, or is deeper by then than matters.
+    /// ends before, or is deeper by then than matters. No processor foresees which, so there is one branch for all.
     #[inline(always)]
     pub(crate) fn misses(&self, bounds: &Bounds) -> bool
         ensures { IsTrue result → (t : Tri) → Holds bounds.now t
@@ -107,15 +107,13 @@ impl Beam {
             .x
             .entry(bounds.low.x, bounds.high.x)
             .max(self.y.entry(bounds.low.y, bounds.high.y))
-            .max(self.z.entry(bounds.low.z, bounds.high.z))
-            .max(0);
+            .max(self.z.entry(bounds.low.z, bounds.high.z));
         let far = self
             .x
             .exit(bounds.low.x, bounds.high.x)
             .min(self.y.exit(bounds.low.y, bounds.high.y))
-            .min(self.z.exit(bounds.low.z, bounds.high.z))
-            .min(self.last);
-        near > far
+            .min(self.z.exit(bounds.low.z, bounds.high.z));
+        (far < near) | (far < 0) | (self.last < near)
     }
 
     /// From now on only what is crossed up to this depth matters.
